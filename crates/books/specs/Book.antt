@@ -1,6 +1,6 @@
 -- What a step book means, and what makes it lawful.
 use mathlib.Core.Path.{_≡_}
-use mathlib.Core.Bool.{Bool, false, cond, _&&_}
+use mathlib.Core.Bool.{Bool, false, cond, not, _&&_, _||_}
 use Prim.Native.Nat.{ℕ, zero, suc, _+_, _≤_}
 
 -- a set of facts, by asking of each number whether it is in
@@ -38,3 +38,7 @@ pub record Lawful (m : Model) : Type 0 where
   pub apart : (a p : ℕ) → (m .adds a p && m .deletes a p) ≡ false
   pub short : (a : ℕ) → m .seconds a ≤ 1000000
   pub no-time : (a : ℕ) → m .steps ≤ a → m .seconds a ≡ 0
+
+-- the facts after step a is done singly: what it deletes is removed, then what it adds is put
+abbrev pub after : Model → Facts → ℕ → Facts
+after m E a p = (E p && not (m .deletes a p)) || m .adds a p
