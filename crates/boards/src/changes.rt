@@ -1,6 +1,7 @@
 // What is done to a board of any kind: a step, a change by two sets, a new set of facts.
 use crate::board::Board;
 use books::Book;
+use books::gather;
 use facts::FactSet;
 ghost use mathlib.Core.Bool.{false, not, _&&_, _||_};
 ghost use mathlib.Core.Path.{_≡_};
@@ -8,41 +9,6 @@ ghost use Prim.Native.Nat.{ℕ};
 ghost use lib.Dec.{ltb};
 ghost use Rattle.books.specs.Book.{after};
 ghost use Rattle.facts.specs.Sets.{holds};
-
-// The facts that a step needs, adds and deletes.
-#[derive(Clone, Copy)]
-pub struct StepSets {
-    pub needs: FactSet,
-    pub adds: FactSet,
-    pub deletes: FactSet,
-}
-
-// The three sets of step `a`; empty where the book has no such step.
-pub fn gather<B: Book>(book: &B, a: usize) -> StepSets
-    ensures needs { λ r. ⌜ ((q : ℕ) → holds (r .needs .words) q ≡ B·Book .model (now (book .entry)) .needs a q) ⌝ }
-    ensures adds { λ r. ⌜ ((q : ℕ) → holds (r .adds .words) q ≡ B·Book .model (now (book .entry)) .adds a q) ⌝ }
-    ensures deletes { λ r. ⌜ ((q : ℕ) → holds (r .deletes .words) q ≡ B·Book .model (now (book .entry)) .deletes a q) ⌝ }
-{
-    let mut needs = FactSet::empty();
-    let mut adds = FactSet::empty();
-    let mut deletes = FactSet::empty();
-    for p in 0..book.facts() {
-        if book.needs(a, p) {
-            needs.insert(p);
-        }
-        if book.adds(a, p) {
-            adds.insert(p);
-        }
-        if book.deletes(a, p) {
-            deletes.insert(p);
-        }
-    }
-    StepSets {
-        needs,
-        adds,
-        deletes,
-    }
-}
 
 // Clears every fact up to the span.
 fn clear_all<D: Board>(board: &mut D)

@@ -2,7 +2,7 @@ use Prim.Native.Nat.{ℕ, _<_, _≤_}
 use mathlib.Core.Path.{_≡_}
 use mathlib.Core.Bool.{false}
 use Rattle.facts.specs.Sets.{holds}
-use Rattle.boards.proofs.changes.gather.Given as given
+use Rattle.books.proofs.step_facts.gather.Given as given
 
 abbrev pub Inv-loop-p : given.InvT-loop-p
 Inv-loop-p g l =
