@@ -1,7 +1,7 @@
 -- The bits of words, and the numbers that a row of words holds.
 use mathlib.Core.Path.{_≡_, refl, sym, ap, _∙_}
 use mathlib.Core.Logic.{_≢_, ⊎-elim}
-use mathlib.Core.Bool.{false, cond, not, _||_, _&&_}
+use mathlib.Core.Bool.{true, false, cond, not, _||_, _&&_}
 use mathlib.Core.List.{List}
 use Prim.Native.Nat.{ℕ, zero, suc, _+_, _-_, _*_, _/_, _%_, _^_, _<_, _≤_, min, max}
 use native.Mathlib.Nat.{two-pow-succ, div-div-eq-div-mul, pow-succ', zero-div, one-mul, mul-assoc, mul-left-comm}
@@ -83,13 +83,13 @@ holds-set ws w v q h =
 
 module _ (ws : List ℕ) (p q : ℕ) (h : p / 64 < length ws) where
   -- one bit is set or cleared, and every other number stays
-  pub holds-put : holds (set ws (p / 64) (bitOr (getD ws (p / 64) 0) ((1 * 2 ^ (p % 64)) % 2 ^ 64))) q ≡ (holds ws q || eqb q p)
+  pub holds-put : holds (set ws (p / 64) (bitOr (getD ws (p / 64) 0) ((1 * 2 ^ (p % 64)) % 2 ^ 64))) q ≡ cond (eqb q p) true (holds ws q)
   unfolding holds
   holds-put =
       holds-set ws (p / 64) (bitOr (getD ws (p / 64) 0) ((1 * 2 ^ (p % 64)) % 2 ^ 64)) q h
       ∙ rw (bit-or (getD ws (p / 64) 0) ((1 * 2 ^ (p % 64)) % 2 ^ 64) (q % 64), bit-mask p (q % 64)) (grind (arith, tells))
 
-  pub holds-clear : holds (set ws (p / 64) (bitAnd (getD ws (p / 64) 0) ((2 ^ 64 - 1) - (1 * 2 ^ (p % 64)) % 2 ^ 64))) q ≡ (holds ws q && not (eqb q p))
+  pub holds-clear : holds (set ws (p / 64) (bitAnd (getD ws (p / 64) 0) ((2 ^ 64 - 1) - (1 * 2 ^ (p % 64)) % 2 ^ 64))) q ≡ cond (eqb q p) false (holds ws q)
   unfolding holds
   holds-clear =
       holds-set ws (p / 64) (bitAnd (getD ws (p / 64) 0) ((2 ^ 64 - 1) - (1 * 2 ^ (p % 64)) % 2 ^ 64)) q h
