@@ -1,6 +1,6 @@
 -- What a board may hold, and what the cells of a tally board mean.
 use mathlib.Core.Path.{_≡_}
-use mathlib.Core.Bool.{Bool, false, not}
+use mathlib.Core.Bool.{false, not}
 use mathlib.Core.List.{List}
 use Prim.Native.Nat.{ℕ, _+_, _-_, _^_, _≤_, min}
 use lib.Dec.{eqb}

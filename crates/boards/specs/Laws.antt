@@ -1,8 +1,8 @@
--- The bit board and the tally board are lawful.
+-- The bit board and the tally board are lawful: the proofs that their impls hand over.
 use mathlib.Core.Path.{_≡_, ap}
 use mathlib.Core.Bool.{not}
 use mathlib.Core.List.{List}
-use Prim.Native.Nat.{ℕ, _≤_}
+use Prim.Native.Nat.{ℕ}
 use native.Mathlib.Omega.{arith}
 use lib.Dec.{eqb, lit≤}
 use lib.ListN.{length}

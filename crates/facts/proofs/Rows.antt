@@ -1,55 +1,31 @@
 -- Loops that work on a row of words, one by one.
-use mathlib.Core.Path.{_≡_, refl, sym, ap, ap₂, _∙_}
-use mathlib.Core.Logic.{_≢_, ⊎-elim}
-use mathlib.Core.Bool.{Bool, true, false, not, _||_, _&&_}
+use mathlib.Core.Path.{_≡_, sym, ap, ap₂, _∙_}
+use mathlib.Core.Logic.{⊎-elim}
+use mathlib.Core.Bool.{Bool, true, false, _&&_}
 use mathlib.Core.List.{List}
 use Prim.Native.Nat.{ℕ, _+_, _-_, _*_, _/_, _%_, _^_, _<_, _≤_}
 use native.Mathlib.Omega.{arith}
 use lib.Dec.{eqb, leb}
 use lib.Count.{trailingZeros}
-use lib.ListN.{length, getD, set, length-set}
+use lib.ListN.{length, getD}
 use Rattle.std.proofs.shelf.Ways.{tells}
-use Rattle.std.proofs.shelf.Tests.{cases-eq, cases-lt}
-use Rattle.std.proofs.shelf.Lists.{getD-set-same, getD-set-other}
-use Rattle.facts.specs.Sets.{bit, holds, First}
-use Rattle.facts.proofs.Words.{bit-zero, bit-cut, holds-past, Lowest, lowest}
+use Rattle.std.proofs.shelf.Tests.{cases-lt}
+use Rattle.facts.specs.Sets.{bit, holds}
+use Rattle.facts.proofs.Words.{bit-zero, holds-past, Lowest, lowest}
 
--- The bits of the first n words of r are op of those of a and b, and the other words are those of a.
-pub record Zipped (op : Bool → Bool → Bool) (a b : List ℕ) (n : ℕ) (r : List ℕ) : Type 0 where
-  pub long : length r ≡ length a
-  pub done : (k j : ℕ) → k < n → j < 64 → bit (getD r k 0) j ≡ op (bit (getD a k 0) j) (bit (getD b k 0) j)
-  pub left : (k : ℕ) → n ≤ k → getD r k 0 ≡ getD a k 0
-
-module _ {op : Bool → Bool → Bool} {a b : List ℕ} where
-  pub zipped-none : Zipped op a b 0 a
-  zipped-none = record { long = refl; done = λ k j h. absurd (omega arith); left = λ k h. refl }
-
-  pub zipped-more : (n v : ℕ) (r : List ℕ) → n < length a → Zipped op a b n r
-      → ((j : ℕ) → j < 64 → bit v j ≡ op (bit (getD r n 0) j) (bit (getD b n 0) j)) → Zipped op a b (n + 1) (set r n v)
-  zipped-more n v r h z word =
-      let long : n < length r = omega (arith, z .long) in
-      record {
-        long = length-set r n v ∙ z .long;
-        done = λ k j l m. ⊎-elim
-            (λ (e : k ≡ n). rw (e, getD-set-same r n v 0 long) (rw (z .left n (omega arith)) at (word j m)))
-            (λ (ne : k ≡ n → ⊥). rw (getD-set-other r n k v 0 ne) (z .done k j (omega arith) m))
-            (cases-eq k n);
-        left = λ k l. getD-set-other r n k v 0 (λ e. omega arith) ∙ z .left k (omega arith);
-      }
-
-  zipped-words : (n q : ℕ) {r : List ℕ} → q / 64 < n → Zipped op a b n r → holds r q ≡ op (holds a q) (holds b q)
-  unfolding holds
-  zipped-words n q h z = z .done (q / 64) (q % 64) h (omega arith)
-
-  pub zipped-all : op false false ≡ false → (n : ℕ) {r : List ℕ} → length a ≤ n → length b ≤ n → Zipped op a b n r
-      → (q : ℕ) → holds r q ≡ op (holds a q) (holds b q)
-  zipped-all none n {r} la lb z q =
-      ⊎-elim
-      (λ (h : q / 64 < n). zipped-words n q h z)
-      (λ (h : n ≤ q / 64).
-      holds-past r q (omega (arith, z .long)) ∙ sym none
-      ∙ sym (ap₂ op (holds-past a q (omega arith)) (holds-past b q (omega arith))))
-      (cases-lt (q / 64) n)
+-- each word of r is f of those of a and b, and f does op on bits: then r holds op of what a and b hold
+pub zipped : (f : ℕ → ℕ → ℕ) (op : Bool → Bool → Bool) (a b r : List ℕ) (n : ℕ) → length a ≤ n → length b ≤ n → length r ≤ n
+    → op false false ≡ false
+    → ((k j : ℕ) → k < n → j < 64 → bit (f (getD a k 0) (getD b k 0)) j ≡ op (bit (getD a k 0) j) (bit (getD b k 0) j))
+    → ((k : ℕ) → k < n → getD r k 0 ≡ f (getD a k 0) (getD b k 0)) → (q : ℕ) → holds r q ≡ op (holds a q) (holds b q)
+unfolding holds
+zipped f op a b r n la lb lr none bits words q =
+    ⊎-elim
+    (λ (h : q / 64 < n). ap (λ w. bit w (q % 64)) (words (q / 64) h) ∙ bits (q / 64) (q % 64) h (omega arith))
+    (λ (h : n ≤ q / 64).
+    holds-past r q (omega arith) ∙ sym none
+    ∙ sym (ap₂ op (holds-past a q (omega arith)) (holds-past b q (omega arith))))
+    (cases-lt (q / 64) n)
 
 -- no number from p on, below 64 * n, is in the words
 abbrev pub Clear : List ℕ → ℕ → ℕ → Type 0

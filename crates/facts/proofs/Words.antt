@@ -1,13 +1,13 @@
--- The bits of words, and the facts that a row of words holds.
+-- The bits of words, and the numbers that a row of words holds.
 use mathlib.Core.Path.{_≡_, refl, sym, ap, _∙_}
 use mathlib.Core.Logic.{_≢_, ⊎-elim}
-use mathlib.Core.Bool.{Bool, true, false, cond, not, _||_, _&&_}
+use mathlib.Core.Bool.{true, false, cond, not, _||_, _&&_}
 use mathlib.Core.List.{List}
 use Prim.Native.Nat.{ℕ, zero, suc, _+_, _-_, _*_, _/_, _%_, _^_, _<_, _≤_, min, max}
 use native.Mathlib.Nat.{two-pow-succ, div-div-eq-div-mul, pow-succ', zero-div, one-mul, mul-assoc, mul-left-comm}
 use native.Mathlib.Omega.{arith}
-use lib.Bits.{bitAnd, bitOr, bitXor, or-step, and-step, or-shr, and-shr, and-mask}
-use lib.Pow.{shl-shr, pow-pos}
+use lib.Bits.{bitAnd, bitOr, or-step, and-step, or-shr, and-shr, and-mask}
+use lib.Pow.{shl-shr}
 use lib.Dec.{eqb, leb}
 use lib.Count.{trailingZeros, under}
 use lib.ListN.{length, getD, set, replicate}
@@ -66,7 +66,7 @@ bit-one k j =
     (λ (ne : j ≡ k → ⊥). grind (arith, tells, digit-one-other j k ne))
     (cases-eq j k)
 
--- the mask of fact p, as the code has it
+-- the mask of number p, as the code has it
 pub bit-mask : (p j : ℕ) → bit ((1 * 2 ^ (p % 64)) % 2 ^ 64) j ≡ eqb j (p % 64)
 bit-mask p j = ap (λ m. bit m j) (one-shl (p % 64) 64 (omega arith)) ∙ bit-one (p % 64) j
 
@@ -82,14 +82,14 @@ holds-set ws w v q h =
     (cases-eq (q / 64) w)
 
 module _ (ws : List ℕ) (p q : ℕ) (h : p / 64 < length ws) where
-  -- set bit k of word w, and every other fact stays
-  pub holds-put : holds (set ws (p / 64) (bitOr (getD ws (p / 64) 0) ((1 * 2 ^ (p % 64)) % 2 ^ 64))) q ≡ (holds ws q || eqb q p)
+  -- one bit is set or cleared, and every other number stays
+  pub holds-put : holds (set ws (p / 64) (bitOr (getD ws (p / 64) 0) ((1 * 2 ^ (p % 64)) % 2 ^ 64))) q ≡ cond (eqb q p) true (holds ws q)
   unfolding holds
   holds-put =
       holds-set ws (p / 64) (bitOr (getD ws (p / 64) 0) ((1 * 2 ^ (p % 64)) % 2 ^ 64)) q h
       ∙ rw (bit-or (getD ws (p / 64) 0) ((1 * 2 ^ (p % 64)) % 2 ^ 64) (q % 64), bit-mask p (q % 64)) (grind (arith, tells))
 
-  pub holds-clear : holds (set ws (p / 64) (bitAnd (getD ws (p / 64) 0) ((2 ^ 64 - 1) - (1 * 2 ^ (p % 64)) % 2 ^ 64))) q ≡ (holds ws q && not (eqb q p))
+  pub holds-clear : holds (set ws (p / 64) (bitAnd (getD ws (p / 64) 0) ((2 ^ 64 - 1) - (1 * 2 ^ (p % 64)) % 2 ^ 64))) q ≡ cond (eqb q p) false (holds ws q)
   unfolding holds
   holds-clear =
       holds-set ws (p / 64) (bitAnd (getD ws (p / 64) 0) ((2 ^ 64 - 1) - (1 * 2 ^ (p % 64)) % 2 ^ 64)) q h

@@ -1,5 +1,5 @@
 // Sets of small numbers, a bit for each number.
-ghost use mathlib.Core.Bool.{Bool, true, false, not, _&&_, _||_};
+ghost use mathlib.Core.Bool.{Bool, true, false, cond, not, _&&_, _||_};
 ghost use mathlib.Core.Path.{_≡_};
 ghost use Prim.Native.Nat.{ℕ, _*_, _<_, _≤_};
 ghost use lib.Dec.{eqb, ltb};
@@ -65,16 +65,29 @@ impl<const W: usize> NumberSet<W> {
         }
     }
 
+    // Makes `p` a member or not; no where the set has no room for such a number.
+    fn write(&mut self, p: usize, member: bool) -> bool
+        ensures answer { λ r. ⌜ r ≡ ltb p (64 * W) ⌝ }
+        ensures after { λ r. ⌜ ((q : ℕ) → holds (now (self .exit) .words) q ≡ cond (r && eqb q p) member (holds (now (self .entry) .words) q)) ⌝ }
+        ensures past { λ r. ⌜ (r ≡ false → holds (now (self .entry) .words) p ≡ false) ⌝ }
+    {
+        if p / 64 >= W {
+            return false;
+        }
+        if member {
+            self.words[p / 64] |= 1 << (p % 64);
+        } else {
+            self.words[p / 64] &= !(1 << (p % 64));
+        }
+        true
+    }
+
     // Puts `p` into the set; no where the set has no room for such a number.
     pub fn insert(&mut self, p: usize) -> bool
         ensures answer { λ r. ⌜ r ≡ ltb p (64 * W) ⌝ }
         ensures after { λ r. ⌜ ((q : ℕ) → holds (now (self .exit) .words) q ≡ (holds (now (self .entry) .words) q || (r && eqb q p))) ⌝ }
     {
-        if p / 64 >= W {
-            return false;
-        }
-        self.words[p / 64] |= 1 << (p % 64);
-        true
+        self.write(p, true)
     }
 
     // Takes `p` out of the set; no where the set has no room for such a number.
@@ -82,11 +95,7 @@ impl<const W: usize> NumberSet<W> {
         ensures answer { λ r. ⌜ r ≡ ltb p (64 * W) ⌝ }
         ensures after { λ _. ⌜ ((q : ℕ) → holds (now (self .exit) .words) q ≡ (holds (now (self .entry) .words) q && not (eqb q p))) ⌝ }
     {
-        if p / 64 >= W {
-            return false;
-        }
-        self.words[p / 64] &= !(1 << (p % 64));
-        true
+        self.write(p, false)
     }
 
     // The numbers in `self`, in `other` or in both.

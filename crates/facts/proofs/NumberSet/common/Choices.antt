@@ -1,6 +1,11 @@
-use mathlib.Core.Bool.{_&&_}
-use Rattle.facts.proofs.Rows.{Zipped}
+use Prim.Native.Nat.{ℕ, _<_, _≤_}
+use mathlib.Core.Path.{_≡_}
+use lib.Bits.{bitAnd}
+use lib.ListN.{length, getD}
 use Rattle.facts.proofs.NumberSet.common.Given as given
 
 abbrev pub Inv-loop-i : given.InvT-loop-i
-Inv-loop-i g l = Zipped _&&_ (l .self .words) (l .other .words) (l .i) (l .words)
+Inv-loop-i g l =
+    (length (l .words) ≡ length (l .self .words))
+    × ((k : ℕ) → k < l .i → getD (l .words) k 0 ≡ bitAnd (getD (l .self .words) k 0) (getD (l .other .words) k 0))
+    × ((k : ℕ) → l .i ≤ k → getD (l .words) k 0 ≡ getD (l .self .words) k 0)

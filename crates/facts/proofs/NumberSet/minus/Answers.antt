@@ -1,14 +1,11 @@
 use mathlib.Core.Path.{refl}
+use mathlib.Core.Bool.{_&&_, not}
+use Prim.Native.Nat.{_-_, _^_}
+use lib.Bits.{bitAnd}
 use native.Mathlib.Omega.{arith}
 use Rattle.facts.proofs.Words.{bit-minus}
-use Rattle.facts.proofs.Rows.{zipped-none, zipped-more, zipped-all}
+use Rattle.facts.proofs.Rows.{zipped}
 use Rattle.facts.proofs.NumberSet.minus.Needs as need
 
-pub loop-i-holds : need.loop-i-holds
-loop-i-holds g c = zipped-none
-
-pub loop-i-again : need.loop-i-again
-loop-i-again g c = zipped-more (c .loop-i .i) _ (c .loop-i .words) (omega arith) (c .loop-i .inv) (λ j h. bit-minus _ _ j (omega arith) h)
-
 pub returns : need.returns
-returns g c = zipped-all refl (c .loop-i .i) (omega arith) (omega arith) (c .loop-i .inv)
+returns g c = zipped (λ x y. bitAnd x ((2 ^ 64 - 1) - y)) (λ x y. x && not y) _ _ _ (c .loop-i .i) (omega arith) (omega arith) (omega arith) refl (λ k j h l. bit-minus _ _ j (c .loop-i .inv .3 k h) l) (c .loop-i .inv .1)

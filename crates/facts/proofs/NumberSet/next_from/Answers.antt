@@ -23,12 +23,12 @@ returns-then-word-ne0 g c =
     let at = word w p n l (omega arith) (c .saturating-sub-low .ensures) in
     let pos : 0 < v = omega arith in
     let fits : v < 2 ^ 64 = omega arith in
-    let t = low-below words p n v (c .loop-i .kept .i) (c .loop-i .inv) at pos fits in (
+    let t = low-below words p n v (omega arith) (c .loop-i .inv) at pos fits in (
       omega arith,
       record {
-        from = found-from words p n v (c .loop-i .kept .i) (c .loop-i .inv) at pos fits;
-        here = found-here words p n v (c .loop-i .kept .i) (c .loop-i .inv) at pos fits;
-        before = found-before words p n v (c .loop-i .kept .i) (c .loop-i .inv) at pos fits;
+        from = found-from words p n v (omega arith) (c .loop-i .inv) at pos fits;
+        here = found-here words p n v (omega arith) (c .loop-i .inv) at pos fits;
+        before = found-before words p n v (omega arith) (c .loop-i .inv) at pos fits;
       },
     )
 
@@ -36,7 +36,7 @@ pub loop-i-again : need.loop-i-again
 loop-i-again g c =
     let words = c .args .self .now .words in
     let n = c .loop-i .i in
-    clear-more words (c .args .p) n _ (c .loop-i .kept .i) (c .loop-i .inv)
+    clear-more words (c .args .p) n _ (omega arith) (c .loop-i .inv)
     (word (getD words n 0) (c .args .p) n (c .saturating-sub-low .result) (omega arith) (c .saturating-sub-low .ensures))
     (c .if-word-ne0 .left)
 

@@ -1,14 +1,10 @@
 use mathlib.Core.Path.{refl}
+use mathlib.Core.Bool.{_||_}
+use lib.Bits.{bitOr}
 use native.Mathlib.Omega.{arith}
 use Rattle.facts.proofs.Words.{bit-or}
-use Rattle.facts.proofs.Rows.{zipped-none, zipped-more, zipped-all}
+use Rattle.facts.proofs.Rows.{zipped}
 use Rattle.facts.proofs.NumberSet.union.Needs as need
 
-pub loop-i-holds : need.loop-i-holds
-loop-i-holds g c = zipped-none
-
-pub loop-i-again : need.loop-i-again
-loop-i-again g c = zipped-more (c .loop-i .i) _ (c .loop-i .words) (omega arith) (c .loop-i .inv) (λ j h. bit-or _ _ j)
-
 pub returns : need.returns
-returns g c = zipped-all refl (c .loop-i .i) (omega arith) (omega arith) (c .loop-i .inv)
+returns g c = zipped bitOr _||_ _ _ _ (c .loop-i .i) (omega arith) (omega arith) (omega arith) refl (λ k j h l. bit-or _ _ j) (c .loop-i .inv .1)
