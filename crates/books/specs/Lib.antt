@@ -1,2 +1,3 @@
 pub mod Book
 pub mod Gathered
+pub mod Listed

@@ -1,0 +1,4 @@
+pub mod RackNumbers
+pub mod RackLawful
+pub mod Racks
+pub mod RackLaws

@@ -1,0 +1,3 @@
+pub mod RackFault
+pub mod Rack
+pub mod RackText
