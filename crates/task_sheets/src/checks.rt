@@ -88,3 +88,42 @@ fn check_level(bytes: &[u8], bound: u16, most: u16, from: Reached) -> Result<Rea
         steps: from.steps + n,
     })
 }
+
+// What is reached behind all levels, which are to begin at `at`, if they are right.
+fn check_levels(bytes: &[u8], header: Header, at: usize) -> Result<Reached, Refused>
+    requires { ⌜ at ≤ length (now bytes) ⌝ }
+    requires { ⌜ at ≡ levelAt (now bytes) 0 ⌝ }
+    requires { ⌜ header .steps ≡ be16 (now bytes) 2 ⌝ }
+    requires { ⌜ header .total ≡ be16 (now bytes) 6 ⌝ }
+    ensures { λ r. ⌜ Gives r (levels (now (bytes .entry)) (header .levels)) (λ q. (q .at ≡ levelAt (now (bytes .entry)) (header .levels)) × (q .at ≤ length (now (bytes .entry))) × (q .steps ≡ stepsBefore (now (bytes .entry)) (header .levels))) ⌝ }
+{
+    let mut reached = Reached { at, steps: 0 };
+    for _i in 0..header.levels {
+        reached = check_level(bytes, header.steps, header.total, reached)?;
+    }
+    Ok(reached)
+}
+
+// Whether the bytes are a task sheet, and else its first refusal.
+pub(crate) fn check_sheet(bytes: &[u8]) -> Result<(), Refused>
+    ensures { λ r. ⌜ r ≡ taskSheet (now (bytes .entry)) ⌝ }
+{
+    let header = read_header(bytes)?;
+    let goal = check_placed(bytes, 8, header.facts, 20)?;
+    let plan = check_placed(bytes, 12, header.facts, goal)?;
+    begins_at(bytes, 16, plan)?;
+    let end = check_levels(bytes, header, plan)?;
+    if end.steps < header.total as usize {
+        return Err(Refused {
+            refusal: Refusal::WrongTotal,
+            place: 6,
+        });
+    }
+    if bytes.len() > end.at {
+        return Err(Refused {
+            refusal: Refusal::Trailing,
+            place: end.at,
+        });
+    }
+    Ok(())
+}
