@@ -1,1 +1,4 @@
 pub mod Turns
+pub mod Sound
+pub mod Codes
+pub mod Decodes
