@@ -2,3 +2,4 @@ pub mod Turns
 pub mod Sound
 pub mod Codes
 pub mod Decodes
+pub mod Slices
