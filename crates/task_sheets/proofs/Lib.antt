@@ -3,3 +3,4 @@ pub mod Sound
 pub mod Codes
 pub mod Decodes
 pub mod Slices
+pub mod Laws

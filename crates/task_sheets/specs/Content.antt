@@ -15,6 +15,10 @@ pub record Task : Type 0 where
   pub goal : List ℕ
   pub levels : List (List ℕ)
 
+-- the task of no facts, steps and levels
+abbrev pub noTask : Task
+noTask = record { facts = 0; steps = 0; start = []; goal = []; levels = [] }
+
 -- a list in a sheet: its count, then its numbers
 abbrev pub listBytes : List ℕ → List ℕ
 listBytes ps = two (length ps) ++ twos ps

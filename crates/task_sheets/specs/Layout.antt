@@ -1,6 +1,6 @@
 -- A task sheet, read front to back: the verdict on it.
 use Prim.Native.Nat.{ℕ, zero, suc, _+_, _*_}
-use mathlib.Core.Bool.{not}
+use mathlib.Core.Bool.{Bool, true, not, _&&_}
 use mathlib.Core.List.{List}
 use lib.ListN.{length}
 use lib.Dec.{leb, eqb}
@@ -23,6 +23,11 @@ header xs =
 -- the byte behind the list that begins at a byte
 abbrev pub past : List ℕ → ℕ → ℕ
 past xs at = at + 2 + 2 * be16 xs at
+
+-- n lists, one behind the other from a byte on, end inside the sheet
+abbrev pub fits : List ℕ → ℕ → ℕ → Bool
+fits xs at zero = true
+fits xs at (suc n) = leb (past xs at) (length xs) && fits xs (past xs at) n
 
 -- where the start list, the goal list and level i begin, the first level being level 0 here
 abbrev pub startAt : ℕ
