@@ -4,3 +4,4 @@ pub mod Codes
 pub mod Decodes
 pub mod Slices
 pub mod Laws
+pub mod Items

@@ -3,7 +3,7 @@ use Prim.Native.Nat.{ℕ, zero, suc, _+_, _-_, _/_, _<_, _≤_, min}
 use mathlib.Core.Path.{_≡_}
 use mathlib.Core.Bool.{Bool, true, false, _&&_}
 use mathlib.Core.List.{List, [], _∷_}
-use lib.Dec.{ltb}
+use lib.Dec.{ltb, leb}
 use lib.ListN.{length, getD}
 use Rattle.std.specs.shelf.Lists.{between}
 use Rattle.std.specs.declared.option.Option.{Option}
@@ -54,10 +54,9 @@ listOf t (LevelPart (suc i)) = getD (t .levels) i []
 
 -- whether a sheet, opened or not, of so many levels has a part
 abbrev pub has : Bool → ℕ → Part → Bool
-has opened n StartPart = opened
-has opened n GoalPart = opened
-has opened n (LevelPart zero) = false
-has opened n (LevelPart (suc i)) = opened && ltb i n
+has opened most StartPart = opened
+has opened most GoalPart = opened
+has opened most (LevelPart n) = opened && (ltb 0 n && leb n most)
 
 -- the item that a part of a sheet is: its case, and from which byte to which it lies in the sheet
 abbrev pub Lies : List ℕ → Part → Item → Type 0
@@ -69,8 +68,7 @@ Lies xs GoalPart (Goal s) = s .now ≡ between (goalAt xs) (levelAt xs 0) xs
 Lies xs GoalPart (Level s) = ⊥
 Lies xs (LevelPart n) (Start s) = ⊥
 Lies xs (LevelPart n) (Goal s) = ⊥
-Lies xs (LevelPart zero) (Level s) = ⊥
-Lies xs (LevelPart (suc i)) (Level s) = s .now ≡ between (levelAt xs i) (levelAt xs (suc i)) xs
+Lies xs (LevelPart n) (Level s) = s .now ≡ between (levelAt xs (n - 1)) (levelAt xs n) xs
 
 -- what is handed out of a sheet on asking for a part: that item, and nothing where the sheet has no such part
 abbrev pub Handed : Bool → List ℕ → Part → Option Item → Type 0

@@ -49,4 +49,60 @@ impl<'a> TaskSheet<'a> {
     {
         get_u16(self.bytes, 6) as usize
     }
+
+    // A part of the sheet, its count included, if the sheet was opened and has it.
+    pub fn item(&self, which: Part) -> Option<Item<'a>>
+        ensures lies { λ r. ⌜ Handed (now (self .entry) .opened) (bytesOf (now (self .entry))) which r ⌝ }
+        ensures says { λ r. ⌜ handedNumbers r ≡ listOf (taskOf (now (self .entry))) which ⌝ }
+    {
+        if !self.opened {
+            return None;
+        }
+        match which {
+            Part::Start => Some(Item::Start(self.part(20))),
+            Part::Goal => Some(Item::Goal(self.part(get_u32(self.bytes, 12) as usize))),
+            Part::Level(n) => {
+                let most = self.levels();
+                if n == 0 || n > most {
+                    return None;
+                }
+                Some(Item::Level(self.part(self.level_at(n - 1))))
+            }
+        }
+    }
+
+    // The levels of the plan, one after the other.
+    pub fn levels_in_turn(&self) -> Levels<'a>
+        ensures { λ r. ⌜ rest r ≡ taskOf (now (self .entry)) .levels ⌝ }
+    {
+        Levels::over(self.bytes, get_u32(self.bytes, 16) as usize, self.levels())
+    }
+
+    // Where level `i` begins, the first being level 0 here.
+    fn level_at(&self, i: usize) -> usize
+        requires { ⌜ i < be16 (bytesOf (now self)) 4 ⌝ }
+        ensures { λ r. ⌜ r ≡ levelAt (bytesOf (now (self .entry))) i ⌝ }
+    {
+        let mut at = get_u32(self.bytes, 16) as usize;
+        for _k in 0..i {
+            at = list_end(self.bytes, at);
+        }
+        at
+    }
+
+    // The list at `at`, where it lies.
+    fn part(&self, at: usize) -> &'a [u8]
+        requires { ⌜ past (bytesOf (now self)) at ≤ length (bytesOf (now self)) ⌝ }
+        ensures { λ r. ⌜ now r ≡ between at (past (bytesOf (now (self .entry))) at) (bytesOf (now (self .entry))) ⌝ }
+    {
+        &self.bytes[at..list_end(self.bytes, at)]
+    }
+}
+
+// The byte behind the list at `at`.
+fn list_end(bytes: &[u8], at: usize) -> usize
+    requires { ⌜ past (now bytes) at ≤ length (now bytes) ⌝ }
+    ensures { λ r. ⌜ r ≡ past (now (bytes .entry)) at ⌝ }
+{
+    at + 2 + 2 * get_u16(bytes, at) as usize
 }
