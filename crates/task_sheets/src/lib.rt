@@ -10,3 +10,6 @@ pub use item::Part;
 pub use levels::Levels;
 pub use numbers::Numbers;
 pub use task_sheet::TaskSheet;
+
+#[cfg(test)]
+mod tests;
