@@ -1,0 +1,1 @@
+// Book sheets: archived bytes opened as a step book, and the sheet of any book written.

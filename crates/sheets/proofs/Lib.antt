@@ -1,0 +1,3 @@
+pub mod Verdicts
+pub mod Stands
+pub mod Entries
