@@ -14,7 +14,7 @@ use Rattle.std.proofs.shelf.Lists.{append-nil}
 use Rattle.books.specs.Book.{Facts, count}
 use Rattle.books.specs.Listed.{listed, members}
 
-and-true : (s t : Bool) → t ≡ true → (s && t) ≡ s
+pub and-true : (s t : Bool) → t ≡ true → (s && t) ≡ s
 and-true true t h = h
 and-true false t h = refl
 
