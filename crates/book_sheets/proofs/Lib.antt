@@ -1,2 +1,4 @@
 pub mod Ascents
 pub mod Models
+pub mod Lengths
+pub mod Parts

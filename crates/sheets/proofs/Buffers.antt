@@ -1,6 +1,6 @@
 -- Bytes written one after the other into a buffer.
 use Prim.Native.Nat.{ℕ, _+_, _-_, _<_, _≤_}
-use mathlib.Core.Path.{_≡_, refl, sym, _∙_, ap}
+use mathlib.Core.Path.{_≡_, sym, _∙_, ap, subst}
 use mathlib.Core.List.{List, [], _∷_, _++_, append-assoc}
 use native.Mathlib.Omega.{arith}
 use borrow.Rule.Slice.PartMut.{putMid}
@@ -53,17 +53,16 @@ written-on xs at ys zs h =
     ∙ ap (λ r. (take at xs ++ ys) ++ (zs ++ r)) b
     ∙ simp append-assoc
 
-pub wrote-on : (xs : List ℕ) (at : ℕ) (ys ws : List ℕ) (n : ℕ) (zs vs : List ℕ) (k : ℕ)
-    → at ≤ length xs → Wrote xs at ys ws n → Wrote ws n zs vs k → Wrote xs at (ys ++ zs) vs k
-wrote-on xs at ys ws n zs vs k h p q =
+pub wrote-on : {xs ys ws zs vs : List ℕ} {at n k : ℕ} → at ≤ length xs → Wrote xs at ys ws n → Wrote ws n zs vs k → Wrote xs at (ys ++ zs) vs k
+wrote-on {xs} {ys} {ws} {zs} {vs} {at} {n} {k} h p q =
     record {
       bytes = q .bytes ∙ ap (λ r. written r n zs) (p .bytes) ∙ ap (λ m. written (written xs at ys) m zs) (p .place) ∙ written-on xs at ys zs h;
       place = let l = length-append ys zs in let a = p .place in let b = q .place in omega arith;
     }
 
 -- what is written keeps the buffer's length
-pub wrote-length : (xs : List ℕ) (at : ℕ) (ys ws : List ℕ) (n : ℕ) → at + length ys ≤ length xs → Wrote xs at ys ws n → length ws ≡ length xs
-wrote-length xs at ys ws n h p = ap length (p .bytes) ∙ length-written xs at ys h
+pub wrote-length : {xs ys ws : List ℕ} {at n : ℕ} → at + length ys ≤ length xs → Wrote xs at ys ws n → length ws ≡ length xs
+wrote-length {xs} {ys} {ws} {at} {n} h p = ap length (p .bytes) ∙ length-written xs at ys h
 
 -- bytes before the place and behind the bytes written are untouched
 pub written-before : (xs : List ℕ) (at : ℕ) (ys : List ℕ) (i : ℕ) → at ≤ length xs → i < at → getD (written xs at ys) i 0 ≡ getD xs i 0
@@ -79,3 +78,10 @@ written-behind xs at ys i h l =
     ∙ ap (λ r. getD r (i - (at + length ys)) 0) (written-back xs at ys h)
     ∙ getD-drop (at + length ys) xs (i - (at + length ys)) 0
     ∙ ap (λ n. getD xs n 0) e
+
+-- the same bytes under another name
+pub wrote-as : {xs ys zs ws : List ℕ} {at n : ℕ} → ys ≡ zs → Wrote xs at ys ws n → Wrote xs at zs ws n
+wrote-as {xs} {ys} {zs} {ws} {at} {n} e p = subst (λ r. Wrote xs at r ws n) e p
+
+pub wrote-to : {xs ys ws vs : List ℕ} {at n k : ℕ} → vs ≡ ws → k ≡ n → Wrote xs at ys ws n → Wrote xs at ys vs k
+wrote-to e f p = record { bytes = e ∙ p .bytes; place = f ∙ p .place }
