@@ -1,1 +1,2 @@
 // Book sheets: archived bytes opened as a step book, and the sheet of any book written.
+mod checks;
