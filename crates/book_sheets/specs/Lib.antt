@@ -1,2 +1,3 @@
 pub mod Layout
 pub mod Content
+pub mod Laws
