@@ -1,108 +1,96 @@
--- Ascending lists are the lists of their sets.
-use Prim.Native.Nat.{ℕ, zero, suc, _+_, _<_, _≤_}
-use mathlib.Core.Path.{_≡_, refl, sym, ap, _∙_, subst}
-use mathlib.Core.Bool.{Bool, true, false, cond, _&&_, _||_}
-use mathlib.Core.List.{List, [], _∷_, _++_}
-use mathlib.Core.Logic.{inl, inr}
+-- Ascending lists, by what is listed.
+use Prim.Native.Nat.{ℕ, zero, suc, _+_, _*_, _<_, _≤_}
+use mathlib.Core.Path.{_≡_, refl, sym, _∙_, ap}
+use mathlib.Core.Bool.{Bool, true, false, _||_}
+use mathlib.Core.Logic.{_⊎_, inl, inr}
+use mathlib.Core.List.{List, [], _∷_}
 use native.Mathlib.Omega.{arith}
-use lib.Dec.{eqb, ltb}
-use lib.ListN.{length, getD, length-append}
-use Rattle.std.proofs.shelf.Tests.{cases-bool, cases-eq, cases-lt, lt-ltb, le-ltb, eq-eqb, ne-eqb, eqb-true, or-left, or-right, or-from, both-ways, and-from}
-use Rattle.std.proofs.shelf.Lists.{append-nil, length-push, getD-push, getD-append-left}
-use Rattle.books.specs.Book.{Facts}
-use Rattle.books.specs.Listed.{listed, members}
-use Rattle.books.proofs.Members.{listed-members, listed-at, listed-where}
-use Rattle.sheets.specs.Lists.{Ascending}
+use lib.Dec.{eqb}
+use lib.ListN.{length, getD}
+use Rattle.std.proofs.shelf.Tests.{both-ways, cases-bool, cases-eq, eqb-true, eq-eqb, ne-eqb, or-cases, or-left, or-right}
+use Rattle.books.specs.Listed.{listed}
+use Rattle.sheets.specs.Lists.{numbersAt, among, Ascending}
+use Rattle.sheets.proofs.Stands.{length-numbersAt}
+use Rattle.sheets.proofs.Entries.{among-says, says-among}
 
-ascending-none : (b : ℕ) → Ascending b []
-ascending-none b = record { below = λ j l. absurd (omega arith); ascends = λ j l. absurd (omega arith) }
+-- two tests that are true together are equal
+same-truth : (x y : Bool) → (x ≡ true → y ≡ true) → (y ≡ true → x ≡ true) → x ≡ y
+same-truth true y h k = sym (h refl)
+same-truth false true h k = k refl
+same-truth false false h k = refl
 
-ascending-higher : (b : ℕ) (ps : List ℕ) → Ascending b ps → Ascending (suc b) ps
-ascending-higher b ps h = record { below = λ j l. let k = h .below j l in omega arith; ascends = h .ascends }
-
-ascending-push : (b : ℕ) (ps : List ℕ) → Ascending b ps → Ascending (suc b) (ps ++ (b ∷ []))
-ascending-push b ps h =
-    let n = length-push ps b in
-    record {
-      below = λ j l. elim (cases-lt j (length ps)) [
-        | inl k ↦ let e = getD-append-left ps (b ∷ []) 0 j k in let m = h .below j k in omega arith
-        | inr k ↦ let e = getD-push ps b 0 j (omega arith) in omega arith
-      ];
-      ascends = λ j l. let k : j < length ps = omega arith in let e = getD-append-left ps (b ∷ []) 0 j k in elim (cases-lt (suc j) (length ps)) [
-        | inl m ↦ let f = getD-append-left ps (b ∷ []) 0 (suc j) m in let a = h .ascends j m in omega arith
-        | inr m ↦ let f = getD-push ps b 0 (suc j) (omega arith) in let a = h .below j k in omega arith
-      ];
-    }
-
-pub members-ascend : (P : Facts) (n : ℕ) → Ascending n (members P n)
-members-ascend P zero = ascending-none 0
-members-ascend P (suc n) =
-    let h = members-ascend P n in
-    elim (cases-bool (P n)) [
-      | inl e ↦ rw e (ascending-push n (members P n) h)
-      | inr e ↦ rw e (rw append-nil (ascending-higher n (members P n) h))
-    ]
-
--- without its first number an ascending list ascends, and all its numbers are above the first
-ascending-rest : (b x : ℕ) (xs : List ℕ) → Ascending b (x ∷ xs) → Ascending b xs
-ascending-rest b x xs h = record { below = λ j l. h .below (suc j) (omega arith); ascends = λ j l. h .ascends (suc j) (omega arith) }
-
-first-below : (b x : ℕ) (xs : List ℕ) → Ascending b (x ∷ xs) → (j : ℕ) → j < length xs → x < getD xs j 0
-first-below b x xs h zero l = h .ascends 0 (omega arith)
-first-below b x xs h (suc j) l =
-    let i = first-below b x xs h j (omega arith) in let k = h .ascends (suc j) (omega arith) in omega arith
-
-listed-above : (b x : ℕ) (xs : List ℕ) → Ascending b (x ∷ xs) → (p : ℕ) → listed xs p ≡ true → x < p
-listed-above b x xs h p e =
-    let r = listed-where xs p e in let l = first-below b x xs h (r .0) (r .1 .0) in omega (arith, r .1 .1)
-
-first-least : (b x : ℕ) (xs : List ℕ) → Ascending b (x ∷ xs) → (p : ℕ) → listed (x ∷ xs) p ≡ true → x ≤ p
-first-least b x xs h p e = elim (cases-eq p x) [
-  | inl same ↦ omega arith
-  | inr other ↦ let f = ne-eqb p x other in let g : listed xs p ≡ true = sym (ap (λ v. v || listed xs p) f) ∙ e in
-      let l = listed-above b x xs h p g in omega arith
+pub listed-says : (ps : List ℕ) (p : ℕ) → listed ps p ≡ true → (j : ℕ) × ((j < length ps) × (getD ps j 0 ≡ p))
+listed-says [] p h = absurd (both-ways false refl h)
+listed-says (q ∷ ps) p h = elim (or-cases (eqb p q) (listed ps p) h) [
+  | inl e ↦ (0, (omega arith, sym (eqb-true p q e)))
+  | inr e ↦ let r = listed-says ps p e in (suc (r .0), (omega (arith, r .1 .0), r .1 .1))
 ]
 
-listed-first : (x : ℕ) (xs : List ℕ) → listed (x ∷ xs) x ≡ true
-listed-first x xs = or-left (eqb x x) (listed xs x) (eq-eqb x x refl)
+pub says-listed : (ps : List ℕ) (p j : ℕ) → j < length ps → getD ps j 0 ≡ p → listed ps p ≡ true
+says-listed [] p j l e = absurd (omega arith)
+says-listed (q ∷ ps) p zero l e = or-left (eqb p q) (listed ps p) (eq-eqb p q (sym e))
+says-listed (q ∷ ps) p (suc j) l e = or-right (eqb p q) (listed ps p) (says-listed ps p j (omega arith) e)
 
-not-below : (b x : ℕ) (xs : List ℕ) → Ascending b (x ∷ xs) → listed xs x ≡ false
-not-below b x xs h = elim (cases-bool (listed xs x)) [
-  | inl e ↦ let l = listed-above b x xs h x e in absurd (omega arith)
+-- what is among the numbers of a list in a sheet is listed
+pub among-listed : (xs : List ℕ) (at n p : ℕ) → among xs at n p ≡ listed (numbersAt xs at n) p
+among-listed xs at n p =
+    same-truth (among xs at n p) (listed (numbersAt xs at n) p)
+    (λ h. let r = among-says xs at n p h in says-listed (numbersAt xs at n) p (r .0) (omega (arith, r .1 .0, length-numbersAt xs at n)) (r .1 .1))
+    (λ h. let r = listed-says (numbersAt xs at n) p h in says-among xs at n p (r .0) (omega (arith, r .1 .0, length-numbersAt xs at n)) (r .1 .1))
+
+-- no number at or above the bound is listed
+pub none-above : (f : ℕ) (ps : List ℕ) → Ascending f ps → (p : ℕ) → f ≤ p → listed ps p ≡ false
+none-above f ps w p l = elim (cases-bool (listed ps p)) [
+  | inl e ↦ let r = listed-says ps p e in let b = w .below (r .0) (r .1 .0) in absurd (omega (arith, r .1 .1))
   | inr e ↦ e
 ]
 
--- the rests of two lists that begin alike hold the same where the lists do
-rests-same : (b x : ℕ) (xs ys : List ℕ) → Ascending b (x ∷ xs) → Ascending b (x ∷ ys) → ((p : ℕ) → listed (x ∷ xs) p ≡ listed (x ∷ ys) p) → (p : ℕ) → listed xs p ≡ listed ys p
-rests-same b x xs ys h k e p = elim (cases-eq p x) [
-  | inl same ↦ rw same (not-below b x xs h ∙ sym (not-below b x ys k))
-  | inr other ↦ let f = ne-eqb p x other in
-      sym (ap (λ v. v || listed xs p) f) ∙ e p ∙ ap (λ v. v || listed ys p) f
+tail : (f p : ℕ) (ps : List ℕ) → Ascending f (p ∷ ps) → Ascending f ps
+tail f p ps w = record { below = λ j l. w .below (suc j) (omega arith); ascends = λ j l. w .ascends (suc j) (omega arith) }
+
+-- the first number is below each that follows
+first-least : (f p : ℕ) (ps : List ℕ) → Ascending f (p ∷ ps) → (q : ℕ) → listed ps q ≡ true → p < q
+first-least f p [] w q h = absurd (both-ways false refl h)
+first-least f p (x ∷ ps) w q h =
+    let up = w .ascends 0 (omega arith) in
+    elim (or-cases (eqb q x) (listed ps q) h) [
+      | inl e ↦ let s = eqb-true q x e in omega arith
+      | inr e ↦ let s = first-least f x ps (tail f p (x ∷ ps) w) q e in omega arith
+    ]
+
+first-not-listed : (f p : ℕ) (ps : List ℕ) → Ascending f (p ∷ ps) → listed ps p ≡ false
+first-not-listed f p ps w = elim (cases-bool (listed ps p)) [
+  | inl e ↦ let l = first-least f p ps w p e in absurd (omega arith)
+  | inr e ↦ e
 ]
 
--- two ascending lists that hold the same numbers are the same
-pub ascending-same : (b : ℕ) (xs ys : List ℕ) → Ascending b xs → Ascending b ys → ((p : ℕ) → listed xs p ≡ listed ys p) → xs ≡ ys
-ascending-same b [] [] h k e = refl
-ascending-same b [] (y ∷ ys) h k e = absurd (both-ways false refl (e y ∙ listed-first y ys))
-ascending-same b (x ∷ xs) [] h k e = absurd (both-ways false refl (sym (e x) ∙ listed-first x xs))
-ascending-same b (x ∷ xs) (y ∷ ys) h k e =
-    let l = first-least b x xs h y (e y ∙ listed-first y ys) in
-    let g = first-least b y ys k x (sym (e x) ∙ listed-first x xs) in
-    let s : y ≡ x = omega arith in
-    let k′ : Ascending b (x ∷ ys) = subst (λ v. Ascending b (v ∷ ys)) s k in
-    let e′ : (p : ℕ) → listed (x ∷ xs) p ≡ listed (x ∷ ys) p = subst (λ v. (p : ℕ) → listed (x ∷ xs) p ≡ listed (v ∷ ys) p) s e in
-    ap (λ r. x ∷ r) (ascending-same b xs ys (ascending-rest b x xs h) (ascending-rest b x ys k′) (rests-same b x xs ys h k′ e′))
-    ∙ ap (λ v. v ∷ ys) (sym s)
+first-listed : (p : ℕ) (ps : List ℕ) → listed (p ∷ ps) p ≡ true
+first-listed p ps = or-left (eqb p p) (listed ps p) (eq-eqb p p refl)
 
-listed-below : (b : ℕ) (ps : List ℕ) → Ascending b ps → (p : ℕ) → listed ps p ≡ true → ltb p b ≡ true
-listed-below b ps h p e =
-    let r = listed-where ps p e in let l = h .below (r .0) (r .1 .0) in lt-ltb p b (omega (arith, r .1 .1))
+-- one of two first numbers is not below the other
+not-below : (f p : ℕ) (ps : List ℕ) (q : ℕ) → Ascending f (p ∷ ps) → listed (p ∷ ps) q ≡ true → p ≤ q
+not-below f p ps q w h = elim (or-cases (eqb q p) (listed ps q) h) [
+  | inl e ↦ let s = eqb-true q p e in omega arith
+  | inr e ↦ let s = first-least f p ps w q e in omega arith
+]
 
-and-when : (s t : Bool) → (s ≡ true → t ≡ true) → (s && t) ≡ s
-and-when true t h = h refl
-and-when false t h = refl
+rest-same : (p r : ℕ) (ps qs : List ℕ) → listed ps p ≡ false → listed qs p ≡ false → listed (p ∷ ps) r ≡ listed (p ∷ qs) r → listed ps r ≡ listed qs r
+rest-same p r ps qs h k e = elim (cases-eq r p) [
+  | inl same ↦ ap (listed ps) same ∙ h ∙ sym k ∙ sym (ap (listed qs) same)
+  | inr other ↦ let z = ne-eqb r p other in
+      sym (ap (λ b. b || listed ps r) z) ∙ e ∙ ap (λ b. b || listed qs r) z
+]
 
-pub members-listed : (b : ℕ) (ps : List ℕ) → Ascending b ps → members (listed ps) b ≡ ps
-members-listed b ps h =
-    ascending-same b (members (listed ps) b) ps (members-ascend (listed ps) b) h
-    (λ p. listed-members (listed ps) b p ∙ and-when (listed ps p) (ltb p b) (listed-below b ps h p))
+-- ascending lists that list the same numbers are equal
+pub ascending-same : (f g : ℕ) (ps qs : List ℕ) → Ascending f ps → Ascending g qs → ((p : ℕ) → listed ps p ≡ listed qs p) → ps ≡ qs
+ascending-same f g [] [] v w h = refl
+ascending-same f g [] (q ∷ qs) v w h = absurd (both-ways (listed (q ∷ qs) q) (sym (h q)) (first-listed q qs))
+ascending-same f g (p ∷ ps) [] v w h = absurd (both-ways (listed (p ∷ ps) p) (h p) (first-listed p ps))
+ascending-same f g (p ∷ ps) (q ∷ qs) v w h =
+    let l = not-below f p ps q v (h q ∙ first-listed q qs) in
+    let k = not-below g q qs p w (sym (h p) ∙ first-listed p ps) in
+    let e : q ≡ p = omega arith in
+    let out : listed qs p ≡ false = sym (ap (listed qs) e) ∙ first-not-listed g q qs w in
+    let on : ps ≡ qs = ascending-same f g ps qs (tail f p ps v) (tail g q qs w)
+    (λ r. rest-same p r ps qs (first-not-listed f p ps v) out (h r ∙ ap (λ n. listed (n ∷ qs) r) e)) in
+    ap (λ s. p ∷ s) on ∙ ap (λ n. n ∷ qs) (sym e)

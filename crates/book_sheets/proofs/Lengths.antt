@@ -1,7 +1,7 @@
 -- How long the parts of a book's sheet are, and how they grow step by step.
 use Prim.Native.Nat.{ℕ, zero, suc, _+_, _*_, _<_, _≤_}
 use mathlib.Core.Path.{_≡_, refl, sym, ap, _∙_}
-use mathlib.Core.Bool.{Bool, true, false}
+use mathlib.Core.Bool.{true}
 use mathlib.Core.List.{List, [], _∷_, _++_}
 use mathlib.Core.Logic.{inl, inr}
 use native.Mathlib.Omega.{arith}
@@ -9,17 +9,17 @@ use native.Mathlib.Numerals.{add-one}
 use lib.ListN.{length, length-append}
 use Rattle.std.proofs.shelf.Lists.{append-assoc, append-nil}
 use Rattle.std.proofs.shelf.Tests.{cases-lt}
-use Rattle.books.specs.Book.{Facts, Model, count, StepSets, Lawful}
-use Rattle.books.specs.Listed.{members}
+use Rattle.books.specs.Book.{Model, count, StepSets, Lawful}
 use Rattle.books.proofs.Counts.{count-hit}
-use Rattle.books.proofs.Members.{length-members, count-up}
-use Rattle.sheets.specs.Fields.{two, four, twos}
+use Rattle.books.proofs.Members.{count-up}
+use Rattle.sheets.specs.Fields.{twos}
 use Rattle.sheets.proofs.Stands.{length-twos}
 use Rattle.book_sheets.specs.declared.writer.Relation.{Relation}
 use Rattle.book_sheets.specs.declared.writer.Relation.the-variants.{Needs, Adds, Deletes}
-use Rattle.book_sheets.specs.Content.{Step, LawfulStep, stepRow, stepRows, past, listsOf, allLists, stepIn, stepsIn}
-use Rattle.book_sheets.specs.Writing.{sheetOf, related, relatedList}
-use Rattle.book_sheets.proofs.Models.{length-stepsIn, step-lawful}
+use Rattle.book_sheets.specs.Content.{Step, stepRow, stepRows, past, listsOf, allLists, stepIn, stepsIn}
+use Rattle.book_sheets.specs.Parts.{related}
+use Rattle.book_sheets.specs.Writing.{bytesOf}
+use Rattle.book_sheets.proofs.Contents.{length-stepsIn, step-lawful}
 
 pub related-sets : (m : Model) → Lawful m → (r : Relation) → StepSets (m .facts) (m .steps) (related m r)
 related-sets m h Needs = h .needs
@@ -98,7 +98,7 @@ all-lists-up m a (suc n) h = elim (cases-lt n a) [
       omega arith
 ]
 
-pub length-sheet : (m : Model) → length (sheetOf m) ≡ 12 + 11 * m .steps + length (allLists (stepsIn m (m .steps)))
+pub length-sheet : (m : Model) → length (bytesOf m) ≡ 12 + 11 * m .steps + length (allLists (stepsIn m (m .steps)))
 length-sheet m =
     let n = length-stepsIn m (m .steps) in
     let at = 12 + 11 * length (stepsIn m (m .steps)) in

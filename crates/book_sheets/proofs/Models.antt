@@ -1,134 +1,127 @@
--- The content of a book is lawful and means the book, and a lawful content is that of the book that it means.
-use Prim.Native.Nat.{ℕ, zero, suc, _+_, _<_, _≤_}
-use mathlib.Core.Path.{_≡_, refl, sym, ap, _∙_, subst}
+-- The book that a lawful content means is lawful; contents that mean the same are equal; what a sheet answers.
+use Prim.Native.Nat.{ℕ, zero, suc, _+_, _*_, _<_, _≤_}
+use mathlib.Core.Path.{_≡_, refl, sym, _∙_, ap}
 use mathlib.Core.Bool.{Bool, true, false, _&&_}
-use mathlib.Core.List.{List, [], _∷_, _++_}
-use mathlib.Core.Logic.{inl, inr}
+use mathlib.Core.Logic.{_⊎_, inl, inr}
+use mathlib.Core.List.{List, [], _∷_}
 use native.Mathlib.Omega.{arith}
-use lib.Dec.{ltb}
 use lib.ListN.{length, getD}
-use Rattle.std.specs.shelf.Lists.{All}
-use Rattle.std.proofs.shelf.Elements.{all-getD, all-push}
-use Rattle.std.proofs.shelf.Tests.{cases-bool, cases-lt, lt-ltb, both-ways, and-from, and-parts}
-use Rattle.std.proofs.shelf.Lists.{ext-getD, length-push, getD-push, getD-append-left, getD-past}
-use Rattle.books.specs.Book.{Facts, Model, StepSets, Lawful}
-use Rattle.books.specs.Listed.{listed, members}
-use Rattle.books.proofs.Members.{and-true, length-members, listed-members, listed-at}
-use Rattle.book_sheets.specs.Content.{Step, Content, LawfulList, LawfulStep, LawfulContent, noStep, modelOf, stepIn, stepsIn, contentOf, Same}
-use Rattle.book_sheets.proofs.Ascents.{members-ascend, members-listed}
+use Rattle.std.proofs.shelf.Tests.{cases-lt, cases-bool, and-left, and-right}
+use Rattle.std.proofs.shelf.Lists.{getD-past, ext-getD}
+use Rattle.std.proofs.shelf.Elements.{all-getD}
+use Rattle.books.specs.Book.{StepSets, Lawful}
+use Rattle.books.specs.Listed.{listed}
+use Rattle.books.proofs.Counts.{count-listed}
+use Rattle.sheets.specs.Fields.{be16, be32}
+use Rattle.sheets.specs.Lists.{among}
+use Rattle.sheets.proofs.Verdicts.{Passes}
+use Rattle.book_sheets.specs.Layout.{rowAt, listsAt, needCount, addCount, deleteCount, bookSheet}
+use Rattle.book_sheets.specs.Content.{Step, Content, noStep, stepOf, stepsFrom, content, encode, modelOf, LawfulList, LawfulStep, LawfulContent, Same}
+use Rattle.book_sheets.specs.Laws.{SheetOf, One-sheet}
+use Rattle.book_sheets.proofs.Lawful.{length-stepsFrom, lawful-content}
+use Rattle.book_sheets.proofs.Codes.{code-of-content}
+use Rattle.book_sheets.proofs.Decodes.{code-passes, content-of-code}
+use Rattle.book_sheets.proofs.Ascents.{listed-says, among-listed, none-above, ascending-same}
 
-pub length-stepsIn : (m : Model) (n : ℕ) → length (stepsIn m n) ≡ n
-length-stepsIn m zero = refl
-length-stepsIn m (suc n) = let e = length-push (stepsIn m n) (stepIn m n) in let h = length-stepsIn m n in omega arith
+no-facts : (f : ℕ) → LawfulList f []
+no-facts f = record {
+  few = omega arith;
+  ascending = record { below = λ j l. absurd (omega arith); ascends = λ j l. absurd (omega arith) };
+}
 
-pub getD-stepsIn : (m : Model) (n a : ℕ) → a < n → getD (stepsIn m n) a noStep ≡ stepIn m a
-getD-stepsIn m zero a l = absurd (omega arith)
-getD-stepsIn m (suc n) a l =
-    let h = length-stepsIn m n in
-    elim (cases-lt a n) [
-      | inl k ↦ getD-append-left (stepsIn m n) (stepIn m n ∷ []) noStep a (omega arith) ∙ getD-stepsIn m n a k
-      | inr k ↦ let e : n ≡ a = omega arith in getD-push (stepsIn m n) (stepIn m n) noStep a (omega arith) ∙ ap (stepIn m) e
-    ]
+no-step-lawful : (f : ℕ) → LawfulStep f noStep
+no-step-lawful f = record {
+  needs = no-facts f;
+  adds = no-facts f;
+  deletes = no-facts f;
+  apart = λ i j l k e. absurd (omega arith);
+  short = omega arith;
+}
 
-getD-no-step : (m : Model) (n a : ℕ) → n ≤ a → getD (stepsIn m n) a noStep ≡ noStep
-getD-no-step m n a l = let h = length-stepsIn m n in getD-past (stepsIn m n) a noStep (omega arith)
+module _ (c : Content) (w : LawfulContent c) where
+  -- step a is lawful, and so is the one that stands for none
+  step-lawful : (a : ℕ) → LawfulStep (c .facts) (getD (c .steps) a noStep)
+  step-lawful a = elim (cases-lt a (length (c .steps))) [
+    | inl l ↦ all-getD (LawfulStep (c .facts)) (c .steps) a noStep l (w .each)
+    | inr l ↦ rw (getD-past (c .steps) a noStep l) (no-step-lawful (c .facts))
+  ]
 
--- the list of a set that has few facts is lawful
-members-lawful : (f n : ℕ) (sets : ℕ → Facts) → StepSets f n sets → (a : ℕ) → LawfulList f (members (sets a) f)
-members-lawful f n sets h a =
-    record {
-      few = let e = length-members (sets a) f in let k = h .few a in omega arith;
-      ascending = members-ascend (sets a) f;
-    }
+  step-sets : (part : Step → List ℕ) → part noStep ≡ [] → ((a : ℕ) → LawfulList (c .facts) (part (getD (c .steps) a noStep)))
+      → StepSets (c .facts) (length (c .steps)) (λ a. listed (part (getD (c .steps) a noStep)))
+  step-sets part none lawful = record {
+    no-step = λ a p l. ap (λ s. listed (part s) p) (getD-past (c .steps) a noStep l) ∙ ap (λ ps. listed ps p) none;
+    no-fact = λ a p l. none-above (c .facts) (part (getD (c .steps) a noStep)) (lawful a .ascending) p l;
+    few = λ a. let few = lawful a .few in
+        omega (arith, count-listed (listed (part (getD (c .steps) a noStep))) (part (getD (c .steps) a noStep)) (λ p e. e) (c .facts));
+  }
 
-in-set : (P : Facts) (n i : ℕ) → i < length (members P n) → P (getD (members P n) i 0) ≡ true
-in-set P n i l =
-    let p = getD (members P n) i 0 in
-    and-parts (P p) (ltb p n) (sym (listed-members P n p) ∙ listed-at (members P n) i l) .0
+  no-both : (a p : ℕ) → (listed (getD (c .steps) a noStep .adds) p && listed (getD (c .steps) a noStep .deletes) p) ≡ false
+  no-both a p =
+      let s = getD (c .steps) a noStep in
+      elim (cases-bool (listed (s .adds) p)) [
+        | inl e ↦ elim (cases-bool (listed (s .deletes) p)) [
+          | inl d ↦ let i = listed-says (s .adds) p e in let j = listed-says (s .deletes) p d in
+              absurd (step-lawful a .apart (i .0) (j .0) (i .1 .0) (j .1 .0) (i .1 .1 ∙ sym (j .1 .1)))
+          | inr d ↦ and-right (listed (s .adds) p) (listed (s .deletes) p) d
+        ]
+        | inr e ↦ and-left (listed (s .adds) p) (listed (s .deletes) p) e
+      ]
 
-apart-lists : (m : Model) → Lawful m → (a i j : ℕ) → i < length (members (m .adds a) (m .facts)) → j < length (members (m .deletes a) (m .facts))
-    → getD (members (m .adds a) (m .facts)) i 0 ≡ getD (members (m .deletes a) (m .facts)) j 0 → ⊥
-apart-lists m h a i j l k e =
-    let p = getD (members (m .deletes a) (m .facts)) j 0 in
-    let x : m .adds a p ≡ true = subst (λ q. m .adds a q ≡ true) e (in-set (m .adds a) (m .facts) i l) in
-    let y : m .deletes a p ≡ true = in-set (m .deletes a) (m .facts) j k in
-    both-ways (m .adds a p && m .deletes a p) (h .apart a p) (and-from (m .adds a p) (m .deletes a p) x y)
+  -- the book that a lawful content means is lawful
+  pub model-lawful : Lawful (modelOf c)
+  model-lawful = record {
+    few-facts = w .few-facts;
+    few-steps = w .few-steps;
+    needs = step-sets (λ s. s .needs) refl (λ a. step-lawful a .needs);
+    adds = step-sets (λ s. s .adds) refl (λ a. step-lawful a .adds);
+    deletes = step-sets (λ s. s .deletes) refl (λ a. step-lawful a .deletes);
+    apart = no-both;
+    short = λ a. step-lawful a .short;
+    no-time = λ a l. ap (λ s. s .seconds) (getD-past (c .steps) a noStep l);
+  }
 
-pub step-lawful : (m : Model) → Lawful m → (a : ℕ) → LawfulStep (m .facts) (stepIn m a)
-step-lawful m h a =
-    record {
-      needs = members-lawful (m .facts) (m .steps) (m .needs) (h .needs) a;
-      adds = members-lawful (m .facts) (m .steps) (m .adds) (h .adds) a;
-      deletes = members-lawful (m .facts) (m .steps) (m .deletes) (h .deletes) a;
-      apart = apart-lists m h a;
-      short = h .short a;
-    }
-
-steps-lawful : (m : Model) → Lawful m → (n : ℕ) → All (LawfulStep (m .facts)) (stepsIn m n)
-steps-lawful m h zero = tt
-steps-lawful m h (suc n) = all-push (LawfulStep (m .facts)) (stepsIn m n) (stepIn m n) (steps-lawful m h n) (step-lawful m h n)
-
-pub content-lawful : (m : Model) → Lawful m → LawfulContent (contentOf m)
-content-lawful m h =
-    record {
-      few-facts = h .few-facts;
-      few-steps = let e = length-stepsIn m (m .steps) in let k = h .few-steps in omega arith;
-      each = steps-lawful m h (m .steps);
-    }
-
--- the lists of a book's steps hold what its sets do, at every number
-and-all : (P : Facts) (f p : ℕ) → ((q : ℕ) → f ≤ q → P q ≡ false) → (P p && ltb p f) ≡ P p
-and-all P f p h = elim (cases-lt p f) [
-  | inl l ↦ and-true (P p) (ltb p f) (lt-ltb p f l)
-  | inr l ↦ let e = h p l in rw e
-]
-
-sets-same : (m : Model) (sets : ℕ → Facts) (get : Step → List ℕ) → StepSets (m .facts) (m .steps) sets
-    → ((a : ℕ) → get (stepIn m a) ≡ members (sets a) (m .facts)) → get noStep ≡ [] → (a p : ℕ)
-    → listed (get (getD (stepsIn m (m .steps)) a noStep)) p ≡ sets a p
-sets-same m sets get h e z a p = elim (cases-lt a (m .steps)) [
-  | inl l ↦ ap (λ s. listed (get s) p) (getD-stepsIn m (m .steps) a l) ∙ ap (λ ps. listed ps p) (e a)
-      ∙ listed-members (sets a) (m .facts) p ∙ and-all (sets a) (m .facts) p (h .no-fact a)
-  | inr l ↦ ap (λ s. listed (get s) p) (getD-no-step m (m .steps) a l) ∙ ap (λ ps. listed ps p) z ∙ sym (h .no-step a p l)
-]
-
-seconds-same : (m : Model) → Lawful m → (a : ℕ) → getD (stepsIn m (m .steps)) a noStep .seconds ≡ m .seconds a
-seconds-same m h a = elim (cases-lt a (m .steps)) [
-  | inl l ↦ ap (λ s. s .seconds) (getD-stepsIn m (m .steps) a l)
-  | inr l ↦ ap (λ s. s .seconds) (getD-no-step m (m .steps) a l) ∙ sym (h .no-time a l)
-]
-
-pub content-means : (m : Model) → Lawful m → Same (modelOf (contentOf m)) m
-content-means m h =
-    record {
-      facts = refl;
-      steps = length-stepsIn m (m .steps);
-      needs = sets-same m (m .needs) (λ s. s .needs) (h .needs) (λ a. refl) refl;
-      adds = sets-same m (m .adds) (λ s. s .adds) (h .adds) (λ a. refl) refl;
-      deletes = sets-same m (m .deletes) (λ s. s .deletes) (h .deletes) (λ a. refl) refl;
-      seconds = seconds-same m h;
-    }
-
--- the content of the book that a lawful content means is that content
-same-step : (s t : Step) → s .needs ≡ t .needs → s .adds ≡ t .adds → s .deletes ≡ t .deletes → s .seconds ≡ t .seconds → s ≡ t
-same-step s t a b c d =
-    let make : List ℕ → List ℕ → List ℕ → ℕ → Step = λ n m k i. record { needs = n; adds = m; deletes = k; seconds = i } in
-    let e : make (s .needs) (s .adds) (s .deletes) (s .seconds) ≡ make (t .needs) (t .adds) (t .deletes) (t .seconds) = cc in
-    e
-
-step-again : (c : Content) → LawfulContent c → (a : ℕ) → a < length (c .steps) → stepIn (modelOf c) a ≡ getD (c .steps) a noStep
-step-again c h a l =
+-- lawful contents that mean the same book are equal
+pub same-content : (c d : Content) → LawfulContent c → LawfulContent d → Same (modelOf c) (modelOf d) → c ≡ d
+same-content c d v w h =
+    let mk : List ℕ → List ℕ → List ℕ → ℕ → Step = λ p q u n. record { needs = p; adds = q; deletes = u; seconds = n } in
+    let step : (a : ℕ) → getD (c .steps) a noStep ≡ getD (d .steps) a noStep = λ a.
     let s = getD (c .steps) a noStep in
-    let k = all-getD (LawfulStep (c .facts)) (c .steps) a noStep l (h .each) in
-    same-step (stepIn (modelOf c) a) s
-    (members-listed (c .facts) (s .needs) (k .needs .ascending))
-    (members-listed (c .facts) (s .adds) (k .adds .ascending))
-    (members-listed (c .facts) (s .deletes) (k .deletes .ascending))
-    refl
+    let t = getD (d .steps) a noStep in
+    let k = step-lawful c v a in
+    let l = step-lawful d w a in
+    let n : s .needs ≡ t .needs = ascending-same (c .facts) (d .facts) (s .needs) (t .needs) (k .needs .ascending) (l .needs .ascending) (h .needs a) in
+    let m : s .adds ≡ t .adds = ascending-same (c .facts) (d .facts) (s .adds) (t .adds) (k .adds .ascending) (l .adds .ascending) (h .adds a) in
+    let u : s .deletes ≡ t .deletes = ascending-same (c .facts) (d .facts) (s .deletes) (t .deletes) (k .deletes .ascending) (l .deletes .ascending) (h .deletes a) in
+    ap (λ x. mk x (s .adds) (s .deletes) (s .seconds)) n
+    ∙ ap (λ x. mk (t .needs) x (s .deletes) (s .seconds)) m
+    ∙ ap (λ x. mk (t .needs) (t .adds) x (s .seconds)) u
+    ∙ ap (λ x. mk (t .needs) (t .adds) (t .deletes) x) (h .seconds a) in
+    let made : ℕ → List Step → Content = λ n ss. record { facts = n; steps = ss } in
+    ap (λ n. made n (c .steps)) (h .facts) ∙ ap (made (d .facts)) (ext-getD noStep (c .steps) (d .steps) (h .steps) (λ a l. step a))
 
-pub content-again : (c : Content) → LawfulContent c → contentOf (modelOf c) ≡ c
-content-again c h =
-    let n = length (c .steps) in
-    let e : stepsIn (modelOf c) n ≡ c .steps = ext-getD noStep (stepsIn (modelOf c) n) (c .steps) (length-stepsIn (modelOf c) n)
-    (λ a l. let k = length-stepsIn (modelOf c) n in getD-stepsIn (modelOf c) n a (omega arith) ∙ step-again c h a (omega arith)) in
-    ap (λ (ss : List Step). record { facts = c .facts; steps = ss }) e
+pub one-sheet : One-sheet
+one-sheet = record {
+  opens = code-passes;
+  says = content-of-code;
+  sheet = λ xs b ok. record { lawful = lawful-content xs ok; same = code-of-content xs b ok };
+  one = λ xs ys b d ok on h.
+      code-of-content xs b ok
+      ∙ ap encode (same-content (content xs) (content ys) (lawful-content xs ok) (lawful-content ys on) h)
+      ∙ sym (code-of-content ys d on);
+}
+
+-- the book of a sheet that passes is lawful
+pub sheet-lawful : (xs : List ℕ) → Passes (bookSheet xs) → Lawful (modelOf (content xs))
+sheet-lawful xs ok = model-lawful (content xs) (lawful-content xs ok)
+
+step-from : (xs : List ℕ) (b n a : ℕ) → a < n → getD (stepsFrom xs b n) a noStep ≡ stepOf xs (b + a)
+step-from xs b zero a l = absurd (omega arith)
+step-from xs b (suc n) zero l = let z : b ≡ b + 0 = omega arith in ap (stepOf xs) z
+step-from xs b (suc n) (suc a) l = let z : suc b + a ≡ b + suc a = omega arith in step-from xs (suc b) n a (omega arith) ∙ ap (stepOf xs) z
+
+-- step a of what a sheet says, and past the last
+pub step-is : (xs : List ℕ) (a : ℕ) → a < be16 xs 2 → getD (content xs .steps) a noStep ≡ stepOf xs a
+step-is xs a l = let z : 0 + a ≡ a = omega arith in step-from xs 0 (be16 xs 2) a l ∙ ap (stepOf xs) z
+
+pub step-past : (xs : List ℕ) (a : ℕ) → be16 xs 2 ≤ a → getD (content xs .steps) a noStep ≡ noStep
+step-past xs a l = getD-past (content xs .steps) a noStep (omega (arith, length-stepsFrom xs 0 (be16 xs 2)))

@@ -1,13 +1,13 @@
 -- The parts of a book's sheet, written step by step.
-use Prim.Native.Nat.{ℕ, zero, suc, _+_, _*_, _<_, _≤_}
+use Prim.Native.Nat.{ℕ, _+_, _*_, _<_, _≤_}
 use mathlib.Core.Path.{_≡_, refl, sym, ap, _∙_}
-use mathlib.Core.Bool.{Bool, true, false}
+use mathlib.Core.Bool.{true, false}
 use mathlib.Core.List.{List, [], _∷_, _++_}
 use native.Mathlib.Omega.{arith}
 use native.Mathlib.Nat.{zero-add}
 use lib.ListN.{length, drop}
 use Rattle.std.proofs.shelf.Lists.{append-assoc}
-use Rattle.books.specs.Book.{Facts, Model, count, Lawful}
+use Rattle.books.specs.Book.{Facts, Model, Lawful}
 use Rattle.books.specs.Listed.{members}
 use Rattle.books.proofs.Counts.{count-hit}
 use Rattle.books.proofs.Members.{length-members, members-hit, members-miss, count-up}
@@ -17,8 +17,9 @@ use Rattle.sheets.proofs.Buffers.{wrote-on, wrote-as}
 use Rattle.sheets.proofs.Stands.{length-twos}
 use Rattle.book_sheets.specs.declared.writer.Sizes.{Sizes}
 use Rattle.book_sheets.specs.Content.{Step, stepRow, stepRows, listsOf, allLists, stepIn, stepsIn}
-use Rattle.book_sheets.specs.Writing.{sheetOf, SizesOf, headerOf, rowsOf, listsIn}
-use Rattle.book_sheets.proofs.Models.{length-stepsIn}
+use Rattle.book_sheets.specs.Parts.{SizesOf, headerOf, rowsOf, listsIn}
+use Rattle.book_sheets.specs.Writing.{bytesOf}
+use Rattle.book_sheets.proofs.Contents.{length-stepsIn}
 use Rattle.book_sheets.proofs.Lengths.{length-rows, steps-more, rows-more, lists-more, all-lists-few}
 
 -- the facts of a set, one after the other
@@ -71,7 +72,7 @@ lists-put m a h w v =
     wrote-as (sym (ap allLists (steps-more m a) ∙ lists-more (stepsIn m a) (stepIn m a))) (wrote-on h w v)
 
 -- the sheet is its parts, one after the other
-pub sheet-parts : (m : Model) → (headerOf m ++ rowsOf m) ++ listsIn m ≡ sheetOf m
+pub sheet-parts : (m : Model) → (headerOf m ++ rowsOf m) ++ listsIn m ≡ bytesOf m
 sheet-parts m =
     let n = length-stepsIn m (m .steps) in
     append-assoc (headerOf m) (rowsOf m) (listsIn m)

@@ -2,11 +2,11 @@ ghost use mathlib.Core.Path.{_≡_};
 ghost use mathlib.Core.List.{[], _∷_, _++_};
 ghost use Prim.Native.Nat.{_+_, _*_, _≤_};
 ghost use lib.ListN.{length};
-ghost use Rattle.books.specs.Book.{Model};
 ghost use Rattle.sheets.specs.Fields.{four, twos};
 ghost use Rattle.sheets.specs.Writing.{Wrote};
 ghost use Rattle.book_sheets.specs.Content.{stepIn, listsOf};
-ghost use Rattle.book_sheets.specs.Writing.{sheetOf, Writes, related, relatedList, SizesOf, headerOf, rowsOf, listsIn};
+ghost use Rattle.book_sheets.specs.Parts.{related, relatedList, SizesOf, headerOf, rowsOf, listsIn};
+ghost use Rattle.book_sheets.specs.Writing.{bytesOf, Writes, Means, Again};
 use books::Book;
 use sheets::TooShort;
 use sheets::writing::put_bytes;
@@ -77,7 +77,7 @@ impl Sizes {
 
 // The length of the book's sheet.
 fn sheet_length<B: Book>(book: &B) -> usize
-    ensures { λ r. ⌜ r ≡ length (sheetOf (model (now (book .entry)))) ⌝ }
+    ensures { λ r. ⌜ r ≡ length (bytesOf (model (now (book .entry)))) ⌝ }
 {
     let steps = book.steps();
     let mut length = 12 + 11 * steps;
@@ -163,9 +163,11 @@ fn put_all_lists<B: Book>(out: &mut [u8], at: usize, book: &B) -> usize
     place
 }
 
-// Writes the sheet of the book at the front of the buffer, and answers its length.
+// Writes the sheet of the book at the front of the buffer, and answers its length. The sheet opens and means the book.
 pub fn write_book<B: Book>(book: &B, out: &mut [u8]) -> Result<usize, TooShort>
     ensures writes { λ r. ⌜ Writes (model (now (book .entry))) (now (out .entry)) r (now (out .exit)) ⌝ }
+    ensures means { λ _. ⌜ Means (bytesOf (model (now (book .entry)))) (model (now (book .entry))) ⌝ }
+    ensures again { λ _. ⌜ Again ⌝ }
 {
     let needed = sheet_length(book);
     if out.len() < needed {

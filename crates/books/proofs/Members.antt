@@ -1,5 +1,5 @@
 -- The list of the numbers in a set.
-use Prim.Native.Nat.{ℕ, zero, suc, _+_, _<_, _≤_}
+use Prim.Native.Nat.{ℕ, zero, suc, _+_, _≤_}
 use mathlib.Core.Path.{_≡_, refl, sym, ap, _∙_}
 use mathlib.Core.Bool.{Bool, true, false, cond, _&&_, _||_}
 use mathlib.Core.List.{List, [], _∷_, _++_}
@@ -7,8 +7,8 @@ use mathlib.Core.Logic.{inl, inr}
 use native.Mathlib.Omega.{arith}
 use native.Mathlib.Numerals.{add-one}
 use lib.Dec.{eqb, ltb}
-use lib.ListN.{length, getD, length-append}
-use Rattle.std.proofs.shelf.Tests.{cases-eq, cases-lt, lt-ltb, le-ltb, eq-eqb, ne-eqb, eqb-true, and-right, or-left, or-right, or-cases, both-ways}
+use lib.ListN.{length, length-append}
+use Rattle.std.proofs.shelf.Tests.{cases-eq, cases-lt, lt-ltb, le-ltb, eq-eqb, ne-eqb, and-right}
 use Rattle.std.proofs.shelf.Ways.{tells}
 use Rattle.std.proofs.shelf.Lists.{append-nil}
 use Rattle.books.specs.Book.{Facts, count}
@@ -79,17 +79,3 @@ listed-members P (suc n) p =
       | inl same ↦ rw same (at-last (P n) (ltb n n) (eqb n n) (le-ltb n n (omega arith)) (eq-eqb n n refl) ∙ sym (and-true (P n) (ltb n (suc n)) (lt-ltb n (suc n) (omega arith))))
       | inr other ↦ elsewhere (P p) (P n) (ltb p n) (eqb p n) (ltb p (suc n)) (ne-eqb p n other) (ltb-same p n other)
     ]
-
--- a number of a list is in it
-pub listed-at : (xs : List ℕ) (i : ℕ) → i < length xs → listed xs (getD xs i 0) ≡ true
-listed-at [] i l = absurd (omega arith)
-listed-at (x ∷ xs) zero l = or-left (eqb x x) (listed xs x) (eq-eqb x x refl)
-listed-at (x ∷ xs) (suc i) l = or-right (eqb (getD xs i 0) x) (listed xs (getD xs i 0)) (listed-at xs i (omega arith))
-
--- a number that is in a list stands somewhere in it
-pub listed-where : (xs : List ℕ) (p : ℕ) → listed xs p ≡ true → (i : ℕ) × ((i < length xs) × (getD xs i 0 ≡ p))
-listed-where [] p h = absurd (both-ways false refl h)
-listed-where (x ∷ xs) p h = elim (or-cases (eqb p x) (listed xs p) h) [
-  | inl e ↦ (0, (omega arith, sym (eqb-true p x e)))
-  | inr e ↦ let r = listed-where xs p e in (suc (r .0), (omega (arith, r .1 .0), r .1 .1))
-]

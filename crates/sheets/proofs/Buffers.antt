@@ -1,11 +1,11 @@
 -- Bytes written one after the other into a buffer.
 use Prim.Native.Nat.{ℕ, _+_, _-_, _<_, _≤_}
 use mathlib.Core.Path.{_≡_, sym, _∙_, ap, subst}
-use mathlib.Core.List.{List, [], _∷_, _++_, append-assoc}
+use mathlib.Core.List.{List, [], _++_, append-assoc}
 use native.Mathlib.Omega.{arith}
 use borrow.Rule.Slice.PartMut.{putMid}
 use lib.ListN.{length, getD, take, drop, length-append}
-use Rattle.std.proofs.shelf.Lists.{take-append-drop, take-at, drop-drop, drop-at, length-take-le, length-drop, getD-take, getD-append-left, getD-append-right, getD-drop}
+use Rattle.std.proofs.shelf.Lists.{take-append-drop, take-at, drop-drop, drop-at, length-take-le, length-drop, getD-take, getD-append-left, getD-drop}
 use Rattle.sheets.specs.Writing.{written, Wrote}
 
 -- a copy into the part from a place to the next

@@ -4,7 +4,7 @@ use native.Mathlib.Omega.{arith}
 use Rattle.books.specs.Book.{count}
 use Rattle.books.proofs.Counts.{count-start, count-hit, count-miss}
 use Rattle.books.proofs.Members.{length-members}
-use Rattle.book_sheets.specs.Writing.{related}
+use Rattle.book_sheets.specs.Parts.{related}
 use Rattle.book_sheets.proofs.Lengths.{count-more}
 use Rattle.book_sheets.proofs.writer.count_related.Needs as need
 use Rattle.book_sheets.proofs.writer.count_related.Needs.{then-is-related, else-is-related}
@@ -15,7 +15,7 @@ loop-p-holds g c = count-start (related (g .B·Book .model (c .args .book .now))
 pub add-n : need.add-n
 add-n g c =
     let m = g .B·Book .model (c .args .book .now) in
-    let k = count-more m (g .B·Book .lawful (c .args .book .now)) (c .args .relation) (c .args .a) (c .loop-p .p) (omega arith) (sym (c .if-is-related .ensures tt)) in
+    let k = count-more m (g .B·Book .lawful (c .args .book .now)) (c .args .relation) (c .args .a) (c .loop-p .p) (omega arith) (sym (c .is-related .ensures) ∙ c .if-is-related .taken) in
     let i = c .loop-p .inv in
     omega arith
 

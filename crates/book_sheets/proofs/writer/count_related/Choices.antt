@@ -1,7 +1,6 @@
 use mathlib.Core.Path.{_≡_}
-use lib.ListN.{length}
 use Rattle.books.specs.Book.{count}
-use Rattle.book_sheets.specs.Writing.{related}
+use Rattle.book_sheets.specs.Parts.{related}
 use Rattle.book_sheets.proofs.writer.count_related.Given as given
 
 abbrev pub Inv-loop-p : given.InvT-loop-p

@@ -3,7 +3,7 @@ use Prim.Native.Nat.{_≤_}
 use native.Mathlib.Omega.{arith}
 use lib.ListN.{length}
 use Rattle.sheets.proofs.Buffers.{wrote-none, wrote-to}
-use Rattle.book_sheets.specs.Writing.{related}
+use Rattle.book_sheets.specs.Parts.{related}
 use Rattle.book_sheets.proofs.Parts.{member-room, member-put, member-passed}
 use Rattle.book_sheets.proofs.writer.put_related.Needs as need
 use Rattle.book_sheets.proofs.writer.put_related.Needs.{then-is-related, else-is-related}

@@ -1,7 +1,7 @@
 use Rattle.books.specs.Listed.{members}
 use Rattle.sheets.specs.Fields.{twos}
 use Rattle.sheets.specs.Writing.{Wrote}
-use Rattle.book_sheets.specs.Writing.{related}
+use Rattle.book_sheets.specs.Parts.{related}
 use Rattle.book_sheets.proofs.writer.put_related.Given as given
 
 abbrev pub Inv-loop-p : given.InvT-loop-p

@@ -1,8 +1,7 @@
-use mathlib.Core.Path.{_≡_, sym, _∙_, ap}
-use Prim.Native.Nat.{_+_, _*_}
+use mathlib.Core.Path.{_≡_, ap}
 use native.Mathlib.Omega.{arith}
 use lib.ListN.{length}
-use Rattle.book_sheets.specs.Content.{stepIn, stepsIn, listsOf, allLists}
+use Rattle.book_sheets.specs.Content.{stepIn, stepsIn, allLists}
 use Rattle.book_sheets.proofs.Lengths.{length-lists, length-lists-more, length-sheet}
 use Rattle.book_sheets.proofs.writer.sheet_length.Needs as need
 

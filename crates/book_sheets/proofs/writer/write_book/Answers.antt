@@ -1,8 +1,9 @@
-use mathlib.Core.Path.{_≡_, sym, ap, _∙_}
+use mathlib.Core.Path.{refl}
 use Prim.Native.Nat.{_+_, _*_, _≤_}
 use native.Mathlib.Omega.{arith}
 use lib.ListN.{length}
 use Rattle.sheets.proofs.Buffers.{wrote-on, wrote-as}
+use Rattle.book_sheets.proofs.Contents.{sheet-means, again}
 use Rattle.book_sheets.proofs.Lengths.{length-sheet}
 use Rattle.book_sheets.proofs.Parts.{row-room, sheet-parts, front-put}
 use Rattle.book_sheets.proofs.writer.write_book.Needs as need
@@ -31,4 +32,12 @@ returns g c =
     let w = wrote-as (sheet-parts m) (wrote-on h (wrote-on h (c .put-header-at .ensures) (c .put-rows-at .ensures)) (c .put-all-lists .ensures)) in
     let f = front-put w in
     let n = c .sheet-length-needed .ensures in
-    record { writes = (f .0, omega (arith, f .0), f .1) }
+    record { writes = (f .0, omega (arith, f .0), f .1); means = sheet-means m (g .B·Book .lawful (c .args .book .now)); again = again }
+
+pub returns-then-out-needed : need.returns-then-out-needed
+returns-then-out-needed g c =
+    record {
+      writes = (c .sheet-length-needed .ensures, omega arith, refl);
+      means = sheet-means (g .B·Book .model (c .args .book .now)) (g .B·Book .lawful (c .args .book .now));
+      again = again;
+    }
