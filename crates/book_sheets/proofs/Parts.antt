@@ -79,7 +79,5 @@ sheet-parts m =
     ∙ sym (ap (λ k. two (m .facts) ++ (two k ++ (four 12 ++ (four (12 + 11 * k) ++ (stepRows (12 + 11 * k) (stepsIn m (m .steps)) ++ listsIn m))))) n)
 
 -- bytes written at the front are followed by what stood behind them
-pub front-put : {xs ys ws : List ℕ} {n : ℕ} → Wrote xs 0 ys ws n → (n ≡ length ys) × (ws ≡ ys ++ drop n xs)
-front-put {xs} {ys} {ws} {n} w =
-    let z : 0 + length ys ≡ n = sym (w .place) in
-    (w .place ∙ zero-add (length ys), w .bytes ∙ ap (λ k. ys ++ drop k xs) z)
+pub front-put : {xs ys ws : List ℕ} {n : ℕ} → Wrote xs 0 ys ws n → ws ≡ ys ++ drop (length ys) xs
+front-put {xs} {ys} w = w .bytes ∙ ap (λ k. ys ++ drop k xs) (zero-add (length ys))

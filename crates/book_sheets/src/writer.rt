@@ -1,7 +1,7 @@
 ghost use mathlib.Core.Path.{_≡_};
 ghost use mathlib.Core.List.{[], _∷_, _++_};
 ghost use Prim.Native.Nat.{_+_, _*_, _≤_};
-ghost use lib.ListN.{length};
+ghost use lib.ListN.{length, drop};
 ghost use Rattle.sheets.specs.Fields.{four, twos};
 ghost use Rattle.sheets.specs.Writing.{Wrote};
 ghost use Rattle.book_sheets.specs.Content.{stepIn, listsOf};
@@ -75,9 +75,11 @@ impl Sizes {
     }
 }
 
-// The length of the book's sheet.
+// The length of the book's sheet, which opens and means the book.
 fn sheet_length<B: Book>(book: &B) -> usize
-    ensures { λ r. ⌜ r ≡ length (bytesOf (model (now (book .entry)))) ⌝ }
+    ensures is { λ r. ⌜ r ≡ length (bytesOf (model (now (book .entry)))) ⌝ }
+    ensures means { λ _. ⌜ Means (bytesOf (model (now (book .entry)))) (model (now (book .entry))) ⌝ }
+    ensures again { λ _. ⌜ Again ⌝ }
 {
     let steps = book.steps();
     let mut length = 12 + 11 * steps;
@@ -163,6 +165,16 @@ fn put_all_lists<B: Book>(out: &mut [u8], at: usize, book: &B) -> usize
     place
 }
 
+// Writes the whole sheet at the front of the buffer.
+fn put_sheet<B: Book>(out: &mut [u8], book: &B)
+    requires { ⌜ length (bytesOf (model (now book))) ≤ length (now out) ⌝ }
+    ensures { λ _. ⌜ now (out .exit) ≡ bytesOf (model (now (book .entry))) ++ drop (length (bytesOf (model (now (book .entry))))) (now (out .entry)) ⌝ }
+{
+    let at = put_header(out, 0, book);
+    let at = put_rows(out, at, book);
+    put_all_lists(out, at, book);
+}
+
 // Writes the sheet of the book at the front of the buffer, and answers its length. The sheet opens and means the book.
 pub fn write_book<B: Book>(book: &B, out: &mut [u8]) -> Result<usize, TooShort>
     ensures writes { λ r. ⌜ Writes (model (now (book .entry))) (now (out .entry)) r (now (out .exit)) ⌝ }
@@ -173,7 +185,6 @@ pub fn write_book<B: Book>(book: &B, out: &mut [u8]) -> Result<usize, TooShort>
     if out.len() < needed {
         return Err(TooShort { needed });
     }
-    let at = put_header(out, 0, book);
-    let at = put_rows(out, at, book);
-    Ok(put_all_lists(out, at, book))
+    put_sheet(out, book);
+    Ok(needed)
 }

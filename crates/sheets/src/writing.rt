@@ -44,7 +44,7 @@ pub fn put_u16(out: &mut [u8], at: usize, n: u16) -> usize
     requires { ⌜ at + 2 ≤ length (now out) ⌝ }
     ensures { λ r. ⌜ Wrote (now (out .entry)) at (two n) (now (out .exit)) r ⌝ }
 {
-    put_bytes(out, at, &n.to_be_bytes())
+    put_bytes(out, at, &u16::to_be_bytes(n))
 }
 
 // Writes a four-byte number at `at`, and answers the place behind it.
@@ -52,5 +52,5 @@ pub fn put_u32(out: &mut [u8], at: usize, n: u32) -> usize
     requires { ⌜ at + 4 ≤ length (now out) ⌝ }
     ensures { λ r. ⌜ Wrote (now (out .entry)) at (four n) (now (out .exit)) r ⌝ }
 {
-    put_bytes(out, at, &n.to_be_bytes())
+    put_bytes(out, at, &u32::to_be_bytes(n))
 }

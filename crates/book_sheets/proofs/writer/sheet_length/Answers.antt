@@ -2,6 +2,7 @@ use mathlib.Core.Path.{_≡_, ap}
 use native.Mathlib.Omega.{arith}
 use lib.ListN.{length}
 use Rattle.book_sheets.specs.Content.{stepIn, stepsIn, allLists}
+use Rattle.book_sheets.proofs.Contents.{sheet-means, again}
 use Rattle.book_sheets.proofs.Lengths.{length-lists, length-lists-more, length-sheet}
 use Rattle.book_sheets.proofs.writer.sheet_length.Needs as need
 
@@ -20,4 +21,4 @@ returns g c =
     let i = c .loop-a .inv .0 in
     let k = ap (λ n. length (allLists (stepsIn m n))) e in
     let l = length-sheet m in
-    omega arith
+    record { is = omega arith; means = sheet-means m (g .B·Book .lawful (c .args .book .now)); again = again }

@@ -1,17 +1,14 @@
-use mathlib.Core.Path.{refl}
 use Prim.Native.Nat.{_+_, _*_, _≤_}
 use native.Mathlib.Omega.{arith}
 use lib.ListN.{length}
 use Rattle.sheets.proofs.Buffers.{wrote-on, wrote-as}
-use Rattle.book_sheets.proofs.Contents.{sheet-means, again}
 use Rattle.book_sheets.proofs.Lengths.{length-sheet}
 use Rattle.book_sheets.proofs.Parts.{row-room, sheet-parts, front-put}
-use Rattle.book_sheets.proofs.writer.write_book.Needs as need
+use Rattle.book_sheets.proofs.writer.put_sheet.Needs as need
 
 pub put-rows-at-requires : need.put-rows-at-requires
 put-rows-at-requires g c κs =
     let l = length-sheet (g .B·Book .model (c .args .book .now)) in
-    let n = c .sheet-length-needed .ensures in
     let w = c .put-header-at .ensures .place in
     omega arith
 
@@ -19,7 +16,6 @@ pub put-all-lists-requires : need.put-all-lists-requires
 put-all-lists-requires g c κs =
     let m = g .B·Book .model (c .args .book .now) in
     let l = length-sheet m in
-    let n = c .sheet-length-needed .ensures in
     let r = row-room m (12 + 11 * m .steps) (m .steps) in
     let w = c .put-header-at .ensures .place in
     let v = c .put-rows-at .ensures .place in
@@ -29,15 +25,4 @@ pub returns : need.returns
 returns g c =
     let m = g .B·Book .model (c .args .book .now) in
     let h : 0 ≤ length (c .args .out .now) = omega arith in
-    let w = wrote-as (sheet-parts m) (wrote-on h (wrote-on h (c .put-header-at .ensures) (c .put-rows-at .ensures)) (c .put-all-lists .ensures)) in
-    let f = front-put w in
-    let n = c .sheet-length-needed .ensures in
-    record { writes = (f .0, omega (arith, f .0), f .1); means = sheet-means m (g .B·Book .lawful (c .args .book .now)); again = again }
-
-pub returns-then-out-needed : need.returns-then-out-needed
-returns-then-out-needed g c =
-    record {
-      writes = (c .sheet-length-needed .ensures, omega arith, refl);
-      means = sheet-means (g .B·Book .model (c .args .book .now)) (g .B·Book .lawful (c .args .book .now));
-      again = again;
-    }
+    front-put (wrote-as (sheet-parts m) (wrote-on h (wrote-on h (c .put-header-at .ensures) (c .put-rows-at .ensures)) (c .put-all-lists .ensures)))
