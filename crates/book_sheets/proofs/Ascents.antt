@@ -92,5 +92,5 @@ ascending-same f g (p ∷ ps) (q ∷ qs) v w h =
     let e : q ≡ p = omega arith in
     let out : listed qs p ≡ false = sym (ap (listed qs) e) ∙ first-not-listed g q qs w in
     let on : ps ≡ qs = ascending-same f g ps qs (tail f p ps v) (tail g q qs w)
-      (λ r. rest-same p r ps qs (first-not-listed f p ps v) out (h r ∙ ap (λ n. listed (n ∷ qs) r) e)) in
+    (λ r. rest-same p r ps qs (first-not-listed f p ps v) out (h r ∙ ap (λ n. listed (n ∷ qs) r) e)) in
     ap (λ s. p ∷ s) on ∙ ap (λ n. n ∷ qs) (sym e)

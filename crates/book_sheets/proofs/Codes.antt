@@ -51,7 +51,7 @@ module _ (xs : List ℕ) (b : Bytes xs) (ok : Passes (bookSheet xs)) where
       let counts : Stands xs (at + 8) (length (stepOf xs a .needs) ∷ length (stepOf xs a .adds) ∷ length (stepOf xs a .deletes) ∷ []) (rowAt (suc a)) = cc in
       let first : Stands xs at (four (listsAt xs a)) (at + 4) = stands-four xs at b (omega arith) ∙ ap (λ v. four v ++ drop (at + 4) xs) (k .begins) in
       let secs : Stands xs (at + 4) (four (be32 xs (at + 4))) (at + 8) =
-        stands-four xs (at + 4) b (omega arith) ∙ ap (λ v. four (be32 xs (at + 4)) ++ drop v xs) e8 in
+      stands-four xs (at + 4) b (omega arith) ∙ ap (λ v. four (be32 xs (at + 4)) ++ drop v xs) e8 in
       stands-join xs at (four (listsAt xs a)) (at + 4) (four (be32 xs (at + 4)) ++ tail) (rowAt (suc a)) first
       (stands-join xs (at + 4) (four (be32 xs (at + 4))) (at + 8) tail (rowAt (suc a)) secs counts)
 

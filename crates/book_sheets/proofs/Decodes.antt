@@ -112,26 +112,26 @@ module _ (xs : List ℕ) (f : ℕ) (head : be16 xs 0 ≡ f) where
   step-pass : (a at : ℕ) (s : Step) → RowSaid xs (rowAt a) at s → listsAt xs a ≡ at → Three xs at s → LawfulStep f s → Passes (stepLists xs a)
   step-pass a at s r e t w =
       let same : lists xs (be16 xs 0) (needCount xs a) (addCount xs a) (deleteCount xs a) (listsAt xs a) ≡ lists xs f (length (s .needs)) (length (s .adds)) (length (s .deletes)) at =
-        ap (λ v. lists xs v (needCount xs a) (addCount xs a) (deleteCount xs a) (listsAt xs a)) head
-        ∙ ap (λ v. lists xs f v (addCount xs a) (deleteCount xs a) (listsAt xs a)) (r .needs)
-        ∙ ap (λ v. lists xs f (length (s .needs)) v (deleteCount xs a) (listsAt xs a)) (r .adds)
-        ∙ ap (λ v. lists xs f (length (s .needs)) (length (s .adds)) v (listsAt xs a)) (r .deletes)
-        ∙ ap (λ v. lists xs f (length (s .needs)) (length (s .adds)) (length (s .deletes)) v) e in
+      ap (λ v. lists xs v (needCount xs a) (addCount xs a) (deleteCount xs a) (listsAt xs a)) head
+      ∙ ap (λ v. lists xs f v (addCount xs a) (deleteCount xs a) (listsAt xs a)) (r .needs)
+      ∙ ap (λ v. lists xs f (length (s .needs)) v (deleteCount xs a) (listsAt xs a)) (r .adds)
+      ∙ ap (λ v. lists xs f (length (s .needs)) (length (s .adds)) v (listsAt xs a)) (r .deletes)
+      ∙ ap (λ v. lists xs f (length (s .needs)) (length (s .adds)) (length (s .deletes)) v) e in
       then-pass (offset xs (rowAt a) (listsAt xs a)) _ (offset-pass xs (rowAt a) (listsAt xs a) (r .begins ∙ sym e)) (ap isOk same ∙ lists-pass xs f at s t w)
 
   step-said : (a at : ℕ) (s : Step) → RowSaid xs (rowAt a) at s → listsAt xs a ≡ at → Three xs at s → stepOf xs a ≡ s
   step-said a at s r e t =
       let n : numbersAt xs (listsAt xs a) (needCount xs a) ≡ s .needs =
-        ap (λ v. numbersAt xs v (needCount xs a)) e ∙ ap (numbersAt xs at) (r .needs) ∙ numbers-said xs at (s .needs) (t .k0) (t .s0) in
+      ap (λ v. numbersAt xs v (needCount xs a)) e ∙ ap (numbersAt xs at) (r .needs) ∙ numbers-said xs at (s .needs) (t .k0) (t .s0) in
       let m : numbersAt xs (listsAt xs a + 2 * needCount xs a) (addCount xs a) ≡ s .adds =
-        ap (λ v. numbersAt xs (v + 2 * needCount xs a) (addCount xs a)) e ∙ ap (λ v. numbersAt xs (at + 2 * v) (addCount xs a)) (r .needs)
-        ∙ ap (numbersAt xs (at + 2 * length (s .needs))) (r .adds) ∙ numbers-said xs (at + 2 * length (s .needs)) (s .adds) (t .k1) (t .s1) in
+      ap (λ v. numbersAt xs (v + 2 * needCount xs a) (addCount xs a)) e ∙ ap (λ v. numbersAt xs (at + 2 * v) (addCount xs a)) (r .needs)
+      ∙ ap (numbersAt xs (at + 2 * length (s .needs))) (r .adds) ∙ numbers-said xs (at + 2 * length (s .needs)) (s .adds) (t .k1) (t .s1) in
       let d : numbersAt xs (listsAt xs a + 2 * needCount xs a + 2 * addCount xs a) (deleteCount xs a) ≡ s .deletes =
-        ap (λ v. numbersAt xs (v + 2 * needCount xs a + 2 * addCount xs a) (deleteCount xs a)) e
-        ∙ ap (λ v. numbersAt xs (at + 2 * v + 2 * addCount xs a) (deleteCount xs a)) (r .needs)
-        ∙ ap (λ v. numbersAt xs (at + 2 * length (s .needs) + 2 * v) (deleteCount xs a)) (r .adds)
-        ∙ ap (numbersAt xs (at + 2 * length (s .needs) + 2 * length (s .adds))) (r .deletes)
-        ∙ numbers-said xs (at + 2 * length (s .needs) + 2 * length (s .adds)) (s .deletes) (t .k2) (t .s2) in
+      ap (λ v. numbersAt xs (v + 2 * needCount xs a + 2 * addCount xs a) (deleteCount xs a)) e
+      ∙ ap (λ v. numbersAt xs (at + 2 * v + 2 * addCount xs a) (deleteCount xs a)) (r .needs)
+      ∙ ap (λ v. numbersAt xs (at + 2 * length (s .needs) + 2 * v) (deleteCount xs a)) (r .adds)
+      ∙ ap (numbersAt xs (at + 2 * length (s .needs) + 2 * length (s .adds))) (r .deletes)
+      ∙ numbers-said xs (at + 2 * length (s .needs) + 2 * length (s .adds)) (s .deletes) (t .k2) (t .s2) in
       let mk : List ℕ → List ℕ → List ℕ → ℕ → Step = λ p q u v. record { needs = p; adds = q; deletes = u; seconds = v } in
       ap (λ v. mk v (stepOf xs a .adds) (stepOf xs a .deletes) (stepOf xs a .seconds)) n
       ∙ ap (λ v. mk (s .needs) v (stepOf xs a .deletes) (stepOf xs a .seconds)) m
@@ -266,7 +266,7 @@ module _ (c : Content) (w : LawfulContent c) where
       let fi = facts-is in
       let room = head-end in
       let ends : listsAt bytes (be16 bytes 2) ≡ 12 + 11 * count + length (allLists (c .steps)) =
-        ap (listsAt bytes) n ∙ (let z : count ≡ 0 + count = omega arith in ap (listsAt bytes) z) ∙ steps-said .ends in
+      ap (listsAt bytes) n ∙ (let z : count ≡ 0 + count = omega arith in ap (listsAt bytes) z) ∙ steps-said .ends in
       then-pass (header bytes) _
       (then-pass (field bytes 0 2) _ (field-pass bytes 0 2 (omega arith))
       (then-pass (limit (be16 bytes 0) 1024 0) _ (limit-pass (be16 bytes 0) 1024 0 (omega (arith, fi)))

@@ -1,2 +1,6 @@
 // Book sheets: archived bytes opened as a step book, and the sheet of any book written.
+pub mod book_sheet;
 mod checks;
+
+pub use book_sheet::BookSheet;
+pub use book_sheet::BookSheetBook;

@@ -1,0 +1,126 @@
+ghost use mathlib.Core.Path.{_≡_};
+ghost use mathlib.Core.Bool.{true};
+ghost use Prim.Native.Nat.{ℕ, _+_, _*_, _<_, _≤_};
+ghost use denote.Ref.{now};
+ghost use lib.ListN.{length};
+ghost use Rattle.std.specs.Options.{Cases as BySome};
+ghost use Rattle.std.specs.Results.{Cases, isOk};
+ghost use Rattle.books.specs.Book.{Lawful};
+ghost use Rattle.books.proofs.Shown.{lawful-shown};
+ghost use Rattle.sheets.specs.Fields.{be16};
+ghost use Rattle.sheets.specs.Verdicts.{verdictOn};
+ghost use Rattle.book_sheets.specs.Layout.{bookSheet, listsAt, needCount, addCount, deleteCount};
+ghost use Rattle.book_sheets.specs.Content.{Content, content, modelOf};
+ghost use Rattle.book_sheets.specs.Laws.{blank, SheetOf, One-sheet};
+use crate::checks::check_book_sheet;
+use books::Book;
+use sheets::Sheet;
+use sheets::SheetFault;
+use sheets::fields::get_u16;
+use sheets::fields::get_u32;
+use sheets::lists::list_has;
+
+// Where the lists of a step begin, and how many facts it needs, adds and deletes.
+#[derive(Drop)]
+struct StepLists {
+    at: usize,
+    needs: usize,
+    adds: usize,
+    deletes: usize,
+}
+
+// A step book that is read from the bytes of its sheet, which are lent and never copied.
+#[derive(Drop)]
+pub struct BookSheet<'a> {
+    bytes: &'a [u8],
+    ghost ok: { isOk (bookSheet (bytes .now)) ≡ true },
+    ghost lawful: { ∥ Lawful (modelOf (content (bytes .now))) ∥₁ },
+}
+
+impl<'a> BookSheet<'a> {
+    // The sheet without facts or steps.
+    pub fn new() -> BookSheet<'a>
+        ensures { λ r. ⌜ content (now (r .bytes)) ≡ blank ⌝ }
+    {
+        BookSheet {
+            bytes: &[0, 0, 0, 0, 0, 0, 0, 12, 0, 0, 0, 12],
+        }
+    }
+
+    // Reads the sheet in these bytes from now on, if they are one; else says what is wrong first, and stays as it was.
+    pub fn open(&mut self, bytes: &'a [u8]) -> Result<(), SheetFault>
+        ensures verdict { λ r. ⌜ r ≡ verdictOn Sheet.Book (bookSheet (now (bytes .entry))) ⌝ }
+        ensures after { λ r. ⌜ Cases r (λ _. now (now (self .exit) .bytes) ≡ now (bytes .entry)) (λ _. now (self .exit) ≡ now (self .entry)) ⌝ }
+        ensures code { λ r. ⌜ Cases r (λ _. SheetOf (now (bytes .entry)) (content (now (bytes .entry)))) (λ _. (c : Content) → SheetOf (now (bytes .entry)) c → ⊥) ⌝ }
+        ensures law { λ _. ⌜ One-sheet ⌝ }
+    {
+        match check_book_sheet(bytes) {
+            Ok(()) => {
+                self.bytes = bytes;
+                Ok(())
+            }
+            Err(refused) => Err(refused.on(Sheet::Book)),
+        }
+    }
+    // The lists of step `a`, if there is such a step.
+    fn lists(&self, a: usize) -> Option<StepLists>
+        ensures { λ r. ⌜ BySome r (be16 (now (now (self .entry) .bytes)) 2 ≤ a) (λ l. (a < be16 (now (now (self .entry) .bytes)) 2) × (l .at ≡ listsAt (now (now (self .entry) .bytes)) a) × (l .needs ≡ needCount (now (now (self .entry) .bytes)) a) × (l .adds ≡ addCount (now (now (self .entry) .bytes)) a) × (l .deletes ≡ deleteCount (now (now (self .entry) .bytes)) a) × (l .at + 2 * l .needs + 2 * l .adds + 2 * l .deletes ≤ length (now (now (self .entry) .bytes)))) ⌝ }
+    {
+        if a >= get_u16(self.bytes, 2) as usize {
+            return None;
+        }
+        let row = 12 + 11 * a;
+        Some(StepLists {
+            at: get_u32(self.bytes, row) as usize,
+            needs: self.bytes[row + 8] as usize,
+            adds: self.bytes[row + 9] as usize,
+            deletes: self.bytes[row + 10] as usize,
+        })
+    }
+}
+
+pub impl Book for BookSheet<'_> as BookSheetBook {
+    ghost model = { λ s. modelOf (content (now (s .bytes))) };
+
+    ghost lawful = { λ s. lawful-shown (modelOf (content (now (s .bytes)))) (s .lawful) };
+
+    fn facts(&self) -> usize {
+        get_u16(self.bytes, 0) as usize
+    }
+
+    fn steps(&self) -> usize {
+        get_u16(self.bytes, 2) as usize
+    }
+
+    fn needs(&self, a: usize, p: usize) -> bool {
+        match self.lists(a) {
+            Some(lists) => list_has(self.bytes, lists.at, lists.needs, p),
+            None => false,
+        }
+    }
+
+    fn adds(&self, a: usize, p: usize) -> bool {
+        match self.lists(a) {
+            Some(lists) => list_has(self.bytes, lists.at + 2 * lists.needs, lists.adds, p),
+            None => false,
+        }
+    }
+
+    fn deletes(&self, a: usize, p: usize) -> bool {
+        match self.lists(a) {
+            Some(lists) => {
+                let at = lists.at + 2 * lists.needs + 2 * lists.adds;
+                list_has(self.bytes, at, lists.deletes, p)
+            }
+            None => false,
+        }
+    }
+
+    fn seconds(&self, a: usize) -> u32 {
+        if a < get_u16(self.bytes, 2) as usize {
+            get_u32(self.bytes, 12 + 11 * a + 4)
+        } else {
+            0
+        }
+    }
+}
