@@ -1,15 +1,14 @@
 ghost use mathlib.Core.Path.{_≡_};
 ghost use mathlib.Core.Bool.{true};
-ghost use Prim.Native.Nat.{ℕ, _+_, _*_, _<_, _≤_};
+ghost use Prim.Native.Nat.{ℕ, _≤_};
 ghost use denote.Ref.{now};
-ghost use lib.ListN.{length};
 ghost use Rattle.std.specs.Options.{Cases as BySome};
 ghost use Rattle.std.specs.Results.{Cases, isOk};
 ghost use Rattle.books.specs.Book.{Lawful};
 ghost use Rattle.books.proofs.Shown.{lawful-shown};
 ghost use Rattle.sheets.specs.Fields.{be16};
 ghost use Rattle.sheets.specs.Verdicts.{verdictOn};
-ghost use Rattle.book_sheets.specs.Layout.{bookSheet, listsAt, needCount, addCount, deleteCount};
+ghost use Rattle.book_sheets.specs.Layout.{bookSheet, Lists};
 ghost use Rattle.book_sheets.specs.Content.{Content, content, modelOf};
 ghost use Rattle.book_sheets.specs.Laws.{blank, SheetOf, One-sheet};
 use crate::checks::check_book_sheet;
@@ -50,7 +49,7 @@ impl<'a> BookSheet<'a> {
     // Reads the sheet in these bytes from now on, if they are one; else says what is wrong first, and stays as it was.
     pub fn open(&mut self, bytes: &'a [u8]) -> Result<(), SheetFault>
         ensures verdict { λ r. ⌜ r ≡ verdictOn Sheet.Book (bookSheet (now (bytes .entry))) ⌝ }
-        ensures after { λ r. ⌜ Cases r (λ _. now (now (self .exit) .bytes) ≡ now (bytes .entry)) (λ _. now (self .exit) ≡ now (self .entry)) ⌝ }
+        ensures after { λ r. ⌜ Cases r (λ _. now (self .exit) .bytes ≡ bytes .entry) (λ _. now (self .exit) ≡ now (self .entry)) ⌝ }
         ensures code { λ r. ⌜ Cases r (λ _. SheetOf (now (bytes .entry)) (content (now (bytes .entry)))) (λ _. (c : Content) → SheetOf (now (bytes .entry)) c → ⊥) ⌝ }
         ensures law { λ _. ⌜ One-sheet ⌝ }
     {
@@ -62,9 +61,10 @@ impl<'a> BookSheet<'a> {
             Err(refused) => Err(refused.on(Sheet::Book)),
         }
     }
+
     // The lists of step `a`, if there is such a step.
     fn lists(&self, a: usize) -> Option<StepLists>
-        ensures { λ r. ⌜ BySome r (be16 (now (now (self .entry) .bytes)) 2 ≤ a) (λ l. (a < be16 (now (now (self .entry) .bytes)) 2) × (l .at ≡ listsAt (now (now (self .entry) .bytes)) a) × (l .needs ≡ needCount (now (now (self .entry) .bytes)) a) × (l .adds ≡ addCount (now (now (self .entry) .bytes)) a) × (l .deletes ≡ deleteCount (now (now (self .entry) .bytes)) a) × (l .at + 2 * l .needs + 2 * l .adds + 2 * l .deletes ≤ length (now (now (self .entry) .bytes)))) ⌝ }
+        ensures { λ r. ⌜ BySome r (be16 (now (now (self .entry) .bytes)) 2 ≤ a) (λ l. Lists (now (now (self .entry) .bytes)) a (l .at) (l .needs) (l .adds) (l .deletes)) ⌝ }
     {
         if a >= get_u16(self.bytes, 2) as usize {
             return None;

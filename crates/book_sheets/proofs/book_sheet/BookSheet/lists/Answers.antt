@@ -30,4 +30,4 @@ returns c =
     let l : c .args .a < be16 (c .args .self .now .bytes .now) 2 = omega arith in
     let k = known (c .args .self .now .bytes .now) (c .args .self .now .ok) (c .args .a) l in
     let e = c .get-u32 .ensures ∙ k .begins in
-    (l, e, refl, refl, refl, omega (arith, e, k .lists .deletes-end))
+    record { there = l; begins = e; needs = refl; adds = refl; deletes = refl; ends = omega (arith, e, k .lists .deletes-end) }
