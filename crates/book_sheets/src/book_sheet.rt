@@ -124,3 +124,81 @@ pub impl Book for BookSheet<'_> as BookSheetBook {
         }
     }
 }
+
+#[cfg(test)]
+mod tests {
+    use super::*;
+    use std::test::*;
+
+    // Three facts and one step of 1,000,000 seconds, that needs 0 and 2, adds 1 and deletes 2.
+    const ONE: [u8; 31] = [
+        0, 3, 0, 1, 0, 0, 0, 12, 0, 0, 0, 23, 0, 0, 0, 23, 0, 15, 66, 64, 2, 1, 1, 0, 0, 0, 2, 0, 1, 0, 2,
+    ];
+
+    // The number and the place of the refusal of these bytes, or zeros.
+    fn refusal(bytes: &[u8]) -> (u8, usize) {
+        let mut sheet = BookSheet::new();
+        match sheet.open(bytes) {
+            Ok(()) => (0, 0),
+            Err(fault) => (fault.refusal.number(), fault.place),
+        }
+    }
+
+    #[test]
+    fn reads_back() -> Result<(), Fail> {
+        let mut sheet = BookSheet::new();
+        check(sheet.facts() == 0 && sheet.steps() == 0)?;
+        check(sheet.open(&ONE).is_ok())?;
+        check(sheet.facts() == 3 && sheet.steps() == 1 && sheet.seconds(0) == 1000000)?;
+        check(sheet.needs(0, 0) && !sheet.needs(0, 1) && sheet.needs(0, 2))?;
+        check(!sheet.adds(0, 0) && sheet.adds(0, 1) && !sheet.adds(0, 2))?;
+        check(!sheet.deletes(0, 1) && sheet.deletes(0, 2))?;
+        check(!sheet.needs(1, 0) && !sheet.needs(0, 3) && sheet.seconds(1) == 0)?;
+        check(sheet.open(&ONE[0..11]).is_err() && sheet.seconds(0) == 1000000)
+    }
+
+    // One byte of the sheet changed: the byte, its new value, the refusal's number and place.
+    const CHANGED: [(usize, u8, u8, usize); 12] = [
+        (0, 4, 2, 0),
+        (2, 2, 2, 2),
+        (7, 13, 3, 4),
+        (11, 24, 3, 8),
+        (15, 24, 3, 12),
+        (19, 65, 2, 16),
+        (20, 251, 2, 20),
+        (21, 251, 2, 21),
+        (22, 251, 2, 22),
+        (26, 3, 4, 25),
+        (26, 0, 5, 25),
+        (30, 1, 6, 29),
+    ];
+
+    #[test]
+    fn refuses_a_changed_byte() -> Result<(), Fail> {
+        for (at, byte, number, place) in CHANGED {
+            let mut bytes = ONE;
+            if at < bytes.len() {
+                bytes[at] = byte;
+            }
+            check_eq(refusal(&bytes), (number, place))?;
+        }
+        Ok(())
+    }
+
+    #[test]
+    fn refuses_a_wrong_length() -> Result<(), Fail> {
+        check_eq(refusal(&ONE[0..11]), (1, 11))?;
+        check_eq(refusal(&[4, 1]), (2, 0))?;
+        // an offset is tested before the part that it points to
+        check_eq(refusal(&ONE[0..12]), (1, 12))?;
+        check_eq(refusal(&[0, 3, 0, 1, 0, 0, 0, 13, 0, 0, 0, 23]), (3, 4))?;
+        // no steps
+        check_eq(refusal(&[0, 3, 0, 0, 0, 0, 0, 12, 0, 0, 0, 12]), (0, 0))?;
+        check_eq(refusal(&[0, 3, 0, 0, 0, 0, 0, 12, 0, 0, 0, 13]), (3, 8))?;
+        // a byte follows
+        check_eq(refusal(&[0, 3, 0, 0, 0, 0, 0, 12, 0, 0, 0, 12, 0]), (9, 12))?;
+        // a step with empty lists
+        check_eq(refusal(&[0, 3, 0, 1, 0, 0, 0, 12, 0, 0, 0, 23, 0, 0, 0, 23, 0, 0, 0, 5, 0, 0, 0]), (0, 0))?;
+        check_eq(refusal(&[0, 3, 0, 1, 0, 0, 0, 12, 0, 0, 0, 23, 0, 0, 0, 24, 0, 0, 0, 5, 0, 0, 0]), (3, 12))
+    }
+}
