@@ -87,7 +87,7 @@ rows-room xs zero l h = l
 rows-room xs (suc n) l h = let k = row-room xs (rowAt n) (then-right (rows xs n) (row xs (rowAt n)) h) in omega arith
 
 -- what is known of the lists of a step with n needs, m adds and k deletes, that begin at a byte
-pub record Lists (xs : List ℕ) (f n m k at : ℕ) : Type 0 where
+pub record Passed (xs : List ℕ) (f n m k at : ℕ) : Type 0 where
   pub needs-ok : Passes (entries xs f at n)
   pub adds-ok : Passes (entries xs f (at + 2 * n) m)
   pub deletes-ok : Passes (upTo (deleted xs f (at + 2 * n) m (at + 2 * n + 2 * m)) k)
@@ -95,7 +95,7 @@ pub record Lists (xs : List ℕ) (f n m k at : ℕ) : Type 0 where
   pub adds-end : at + 2 * n + 2 * m ≤ length xs
   pub deletes-end : at + 2 * n + 2 * m + 2 * k ≤ length xs
 
-lists-known : (xs : List ℕ) (f n m k at : ℕ) → at ≤ length xs → Passes (lists xs f n m k at) → Lists xs f n m k at
+lists-known : (xs : List ℕ) (f n m k at : ℕ) → at ≤ length xs → Passes (lists xs f n m k at) → Passed xs f n m k at
 lists-known xs f n m k at l h =
     let p0 : Passes (entries xs f at n) = then-left (entries xs f at n) _ h in
     let on : Passes (entries xs f (at + 2 * n) m then upTo (deleted xs f (at + 2 * n) m (at + 2 * n + 2 * m)) k) = then-right (entries xs f at n) _ h in
@@ -117,10 +117,10 @@ pub record Known (xs : List ℕ) (a : ℕ) : Type 0 where
   pub row-ok : Passes (row xs (rowAt a))
   pub row-end : rowAt a + 11 ≤ length xs
   pub begins : be32 xs (rowAt a) ≡ listsAt xs a
-  pub lists : Lists xs (be16 xs 0) (needCount xs a) (addCount xs a) (deleteCount xs a) (listsAt xs a)
+  pub lists : Passed xs (be16 xs 0) (needCount xs a) (addCount xs a) (deleteCount xs a) (listsAt xs a)
 
 module _ (xs : List ℕ) (ok : Passes (bookSheet xs)) where
-  step-known : (a : ℕ) → a < be16 xs 2 → listsAt xs a ≤ length xs → Lists xs (be16 xs 0) (needCount xs a) (addCount xs a) (deleteCount xs a) (listsAt xs a)
+  step-known : (a : ℕ) → a < be16 xs 2 → listsAt xs a ≤ length xs → Passed xs (be16 xs 0) (needCount xs a) (addCount xs a) (deleteCount xs a) (listsAt xs a)
   step-known a l at =
       lists-known xs (be16 xs 0) (needCount xs a) (addCount xs a) (deleteCount xs a) (listsAt xs a) at
       (then-right (offset xs (rowAt a) (listsAt xs a)) _ (upTo-each (stepLists xs) (be16 xs 2) a l (lists-ok xs ok)))

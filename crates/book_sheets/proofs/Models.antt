@@ -1,5 +1,5 @@
--- The book that a lawful content means is lawful; contents that mean the same are equal; what a sheet answers.
-use Prim.Native.Nat.{ℕ, zero, suc, _+_, _*_, _<_, _≤_}
+-- The book that a lawful content means is lawful, and contents that mean the same book are equal.
+use Prim.Native.Nat.{ℕ}
 use mathlib.Core.Path.{_≡_, refl, sym, _∙_, ap}
 use mathlib.Core.Bool.{Bool, true, false, _&&_}
 use mathlib.Core.Logic.{_⊎_, inl, inr}
@@ -12,16 +12,14 @@ use Rattle.std.proofs.shelf.Elements.{all-getD}
 use Rattle.books.specs.Book.{StepSets, Lawful}
 use Rattle.books.specs.Listed.{listed}
 use Rattle.books.proofs.Counts.{count-listed}
-use Rattle.sheets.specs.Fields.{be16, be32}
-use Rattle.sheets.specs.Lists.{among}
 use Rattle.sheets.proofs.Verdicts.{Passes}
-use Rattle.book_sheets.specs.Layout.{rowAt, listsAt, needCount, addCount, deleteCount, bookSheet}
-use Rattle.book_sheets.specs.Content.{Step, Content, noStep, stepOf, stepsFrom, content, encode, modelOf, LawfulList, LawfulStep, LawfulContent, Same}
+use Rattle.book_sheets.specs.Layout.{bookSheet}
+use Rattle.book_sheets.specs.Content.{Step, Content, noStep, content, encode, modelOf, LawfulList, LawfulStep, LawfulContent, Same}
 use Rattle.book_sheets.specs.Laws.{SheetOf, One-sheet}
-use Rattle.book_sheets.proofs.Lawful.{length-stepsFrom, lawful-content}
+use Rattle.book_sheets.proofs.Lawful.{lawful-content}
 use Rattle.book_sheets.proofs.Codes.{code-of-content}
 use Rattle.book_sheets.proofs.Decodes.{code-passes, content-of-code}
-use Rattle.book_sheets.proofs.Ascents.{listed-says, among-listed, none-above, ascending-same}
+use Rattle.book_sheets.proofs.Ascents.{listed-says, none-above, ascending-same}
 
 no-facts : (f : ℕ) → LawfulList f []
 no-facts f = record {
@@ -113,15 +111,3 @@ one-sheet = record {
 -- the book of a sheet that passes is lawful
 pub sheet-lawful : (xs : List ℕ) → Passes (bookSheet xs) → Lawful (modelOf (content xs))
 sheet-lawful xs ok = model-lawful (content xs) (lawful-content xs ok)
-
-step-from : (xs : List ℕ) (b n a : ℕ) → a < n → getD (stepsFrom xs b n) a noStep ≡ stepOf xs (b + a)
-step-from xs b zero a l = absurd (omega arith)
-step-from xs b (suc n) zero l = let z : b ≡ b + 0 = omega arith in ap (stepOf xs) z
-step-from xs b (suc n) (suc a) l = let z : suc b + a ≡ b + suc a = omega arith in step-from xs (suc b) n a (omega arith) ∙ ap (stepOf xs) z
-
--- step a of what a sheet says, and past the last
-pub step-is : (xs : List ℕ) (a : ℕ) → a < be16 xs 2 → getD (content xs .steps) a noStep ≡ stepOf xs a
-step-is xs a l = let z : 0 + a ≡ a = omega arith in step-from xs 0 (be16 xs 2) a l ∙ ap (stepOf xs) z
-
-pub step-past : (xs : List ℕ) (a : ℕ) → be16 xs 2 ≤ a → getD (content xs .steps) a noStep ≡ noStep
-step-past xs a l = getD-past (content xs .steps) a noStep (omega (arith, length-stepsFrom xs 0 (be16 xs 2)))

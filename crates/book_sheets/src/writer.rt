@@ -188,3 +188,67 @@ pub fn write_book<B: Book>(book: &B, out: &mut [u8]) -> Result<usize, TooShort>
     put_sheet(out, book);
     Ok(needed)
 }
+
+#[cfg(test)]
+mod tests {
+    use super::*;
+    use crate::book_sheet::BookSheet;
+    use crate::book_sheet::BookSheetBook;
+    use sheets::writing::TooShortDebug;
+    use sheets::writing::TooShortPartialEq;
+    use std::test::*;
+
+    // Three facts and one step of 60 seconds, that needs 0 and 2, adds 1 and deletes 2.
+    const ONE: [u8; 31] = [
+        0,
+        3,
+        0,
+        1,
+        0,
+        0,
+        0,
+        12,
+        0,
+        0,
+        0,
+        23,
+        0,
+        0,
+        0,
+        23,
+        0,
+        0,
+        0,
+        60,
+        2,
+        1,
+        1,
+        0,
+        0,
+        0,
+        2,
+        0,
+        1,
+        0,
+        2,
+    ];
+
+    #[test]
+    fn writes_the_same_bytes() -> Result<(), Fail> {
+        let mut sheet = BookSheet::new();
+        check(sheet.open(&ONE).is_ok())?;
+        let mut out = [9; 33];
+        check_eq(write_book(&sheet, &mut out), Ok(31))?;
+        check_eq(&out[0..31], &ONE[0..31])?;
+        check_eq(&out[31..33], &[9, 9])
+    }
+
+    #[test]
+    fn names_the_needed_length() -> Result<(), Fail> {
+        let mut sheet = BookSheet::new();
+        check(sheet.open(&ONE).is_ok())?;
+        let mut out = [9; 30];
+        check_eq(write_book(&sheet, &mut out), Err(TooShort { needed: 31 }))?;
+        check_eq(out, [9; 30])
+    }
+}
