@@ -1,2 +1,5 @@
 pub mod Layout
 pub mod Content
+pub mod Laws
+pub mod Writing
+pub mod Parts

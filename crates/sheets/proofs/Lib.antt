@@ -1,3 +1,4 @@
 pub mod Verdicts
 pub mod Stands
 pub mod Entries
+pub mod Buffers

@@ -18,6 +18,10 @@ number EmptyLevel = 7
 number WrongTotal = 8
 number Trailing = 9
 
+-- the number of the refusal of a lent buffer that is too short; it names one value, the needed length
+abbrev pub tooShort : ℕ
+tooShort = 19
+
 -- a refusal on a sheet of a kind, at its byte place
 abbrev pub faultOn : Sheet → Refused → SheetFault
 faultOn s r = record { sheet = s; refusal = r .refusal; place = r .place }

@@ -2,3 +2,4 @@ pub mod Faults
 pub mod Verdicts
 pub mod Fields
 pub mod Lists
+pub mod Writing

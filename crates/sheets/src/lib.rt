@@ -1,9 +1,11 @@
-// What both kinds of sheet are made of: faults, fields, and lists of ascending numbers.
+// What both kinds of sheet are made of: faults, fields, lists of ascending numbers, and the writing of bytes.
 pub mod fault;
 pub mod fields;
 pub mod lists;
+pub mod writing;
 
 pub use fault::Refusal;
 pub use fault::Refused;
 pub use fault::Sheet;
 pub use fault::SheetFault;
+pub use writing::TooShort;
