@@ -3,3 +3,4 @@ pub mod Verdicts
 pub mod Fields
 pub mod Lists
 pub mod Writing
+pub mod FaultText
