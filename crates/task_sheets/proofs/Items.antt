@@ -13,17 +13,21 @@ use Rattle.std.proofs.shelf.Lists.{getD-past}
 use Rattle.sheets.specs.Fields.{be16}
 use Rattle.task_sheets.specs.declared.task_sheet.TaskSheet.{TaskSheet}
 use Rattle.task_sheets.specs.declared.item.Part.the-variants.{Level}
-use Rattle.task_sheets.specs.Layout.{past, levelAt}
-use Rattle.task_sheets.specs.Content.{listAt, levelsFrom, content, noTask}
+use Rattle.task_sheets.specs.Layout.{past, goalAt, levelAt}
+use Rattle.task_sheets.specs.Content.{listAt, levelsFrom, content, noTask, LawfulTask}
 use Rattle.task_sheets.specs.Parts.{has, listOf, partNumbers}
 use Rattle.task_sheets.specs.Opened.{taskOf}
-use Rattle.task_sheets.proofs.Sound.{GoodSheet, length-levelsFrom}
+use Rattle.task_sheets.proofs.Sound.{GoodSheet, sheet-good, lawful-content, length-levelsFrom}
 use Rattle.task_sheets.proofs.Laws.{getD-levelsFrom}
 use Rattle.task_sheets.proofs.Slices.{part-numbers}
 
 -- a part that is the list at a byte
 pub part-said : (xs bs : List ℕ) (at : ℕ) → past xs at ≤ length xs → bs ≡ between at (past xs at) xs → partNumbers bs ≡ listAt xs at
 part-said xs bs at l e = ap partNumbers e ∙ part-numbers xs at l
+
+-- the bytes from where the goal begins
+pub goal-lies : (xs bs : List ℕ) (at : ℕ) → at ≡ goalAt xs → bs ≡ between at (past xs at) xs → bs ≡ between (goalAt xs) (levelAt xs 0) xs
+goal-lies xs bs at e h = h ∙ ap (λ v. between v (past xs v) xs) e
 
 module _ (xs : List ℕ) (g : GoodSheet xs) where
   pub level-end : (i : ℕ) → i < be16 xs 4 → past xs (levelAt xs i) ≤ length xs
@@ -60,3 +64,7 @@ module _ (xs : List ℕ) (g : GoodSheet xs) where
 -- a sheet that is not opened says the task of no facts, steps and levels
 pub unopened-says : (s : TaskSheet) → s .opened ≡ false → taskOf s ≡ noTask
 unopened-says s e = ap content (s .blank e)
+
+-- every sheet, opened or not, says a lawful task
+pub sheet-lawful : (s : TaskSheet) → LawfulTask (taskOf s)
+sheet-lawful s = lawful-content (s .bytes .now) (sheet-good (s .bytes .now) (s .passes))

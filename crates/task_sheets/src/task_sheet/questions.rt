@@ -24,28 +24,32 @@ impl<'a> TaskSheet<'a> {
 
     // How many facts the task speaks of.
     pub fn facts(&self) -> usize
-        ensures { λ r. ⌜ r ≡ taskOf (now (self .entry)) .facts ⌝ }
+        ensures says { λ r. ⌜ r ≡ taskOf (now (self .entry)) .facts ⌝ }
+        ensures few { λ r. ⌜ r ≤ 1024 ⌝ }
     {
         get_u16(self.bytes, 0) as usize
     }
 
     // How many steps the task speaks of.
     pub fn steps(&self) -> usize
-        ensures { λ r. ⌜ r ≡ taskOf (now (self .entry)) .steps ⌝ }
+        ensures says { λ r. ⌜ r ≡ taskOf (now (self .entry)) .steps ⌝ }
+        ensures few { λ r. ⌜ r ≤ 512 ⌝ }
     {
         get_u16(self.bytes, 2) as usize
     }
 
     // How many levels the plan has.
     pub fn levels(&self) -> usize
-        ensures { λ r. ⌜ r ≡ length (taskOf (now (self .entry)) .levels) ⌝ }
+        ensures says { λ r. ⌜ r ≡ length (taskOf (now (self .entry)) .levels) ⌝ }
+        ensures few { λ r. ⌜ r ≤ 256 ⌝ }
     {
         get_u16(self.bytes, 4) as usize
     }
 
     // How many steps all levels have.
     pub fn total(&self) -> usize
-        ensures { λ r. ⌜ r ≡ total (taskOf (now (self .entry)) .levels) ⌝ }
+        ensures says { λ r. ⌜ r ≡ total (taskOf (now (self .entry)) .levels) ⌝ }
+        ensures few { λ r. ⌜ r ≤ 256 ⌝ }
     {
         get_u16(self.bytes, 6) as usize
     }

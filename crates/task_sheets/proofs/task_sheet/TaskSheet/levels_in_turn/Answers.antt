@@ -10,12 +10,12 @@ pub over-requires : need.over-requires
 over-requires c κs =
     let xs = c .args .self .now .bytes .now in
     let g = sheet-good xs (c .args .self .now .passes) in
-    let n = c .levels .ensures ∙ length-levelsFrom xs (levelAt xs 0) (be16 xs 4) in
+    let n = c .levels .ensures .says ∙ length-levelsFrom xs (levelAt xs 0) (be16 xs 4) in
     ap (λ v. fits xs v (c .levels .result)) (c .get-u32 .ensures ∙ g .plan-place) ∙ ap (fits xs (levelAt xs 0)) n ∙ levels-fit xs g
 
 pub returns : need.returns
 returns c =
     let xs = c .args .self .now .bytes .now in
     let g = sheet-good xs (c .args .self .now .passes) in
-    let n = c .levels .ensures ∙ length-levelsFrom xs (levelAt xs 0) (be16 xs 4) in
+    let n = c .levels .ensures .says ∙ length-levelsFrom xs (levelAt xs 0) (be16 xs 4) in
     c .over .ensures ∙ ap (λ v. levelsFrom xs v (c .levels .result)) (c .get-u32 .ensures ∙ g .plan-place) ∙ ap (levelsFrom xs (levelAt xs 0)) n
