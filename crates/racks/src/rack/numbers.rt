@@ -75,25 +75,35 @@ impl Rack {
         }
     }
 
+    fn step_of_number(&self, a: usize) -> RackStep
+        requires { ⌜ a < stepCount (now self .loggers) (now self .baths) ⌝ }
+        ensures on { λ r. ⌜ stepOn (now (self .entry) .loggers) (now (self .entry) .baths) r ≡ true ⌝ }
+        ensures number { λ r. ⌜ stepNumber (now (self .entry) .loggers) (now (self .entry) .baths) r ≡ a ⌝ }
+    {
+        let pairs = self.pairs();
+        if a < pairs {
+            let (logger, bath) = self.split(a);
+            RackStep::Put { logger, bath }
+        } else if a < 2 * pairs {
+            let (logger, bath) = self.split(a - pairs);
+            RackStep::TakeOut { logger, bath }
+        } else if a < 3 * pairs {
+            let (logger, bath) = self.split(a - 2 * pairs);
+            RackStep::Read { logger, bath }
+        } else {
+            RackStep::Settle {
+                bath: a - 3 * pairs,
+            }
+        }
+    }
+
     // The step with number `a`, none past the steps.
     pub fn step(&self, a: usize) -> Option<RackStep>
         ensures at { λ r. ⌜ r ≡ stepAt (now (self .entry) .loggers) (now (self .entry) .baths) a ⌝ }
         ensures numbered { λ r. ⌜ Cases r (stepCount (now (self .entry) .loggers) (now (self .entry) .baths) ≤ a) (λ s. StepNumbered (now (self .entry) .loggers) (now (self .entry) .baths) s a) ⌝ }
     {
-        let pairs = self.pairs();
-        if a < pairs {
-            let (logger, bath) = self.split(a);
-            Some(RackStep::Put { logger, bath })
-        } else if a < 2 * pairs {
-            let (logger, bath) = self.split(a - pairs);
-            Some(RackStep::TakeOut { logger, bath })
-        } else if a < 3 * pairs {
-            let (logger, bath) = self.split(a - 2 * pairs);
-            Some(RackStep::Read { logger, bath })
-        } else if a < 3 * pairs + self.baths {
-            Some(RackStep::Settle {
-                bath: a - 3 * pairs,
-            })
+        if a < 3 * self.pairs() + self.baths {
+            Some(self.step_of_number(a))
         } else {
             None
         }
@@ -147,24 +157,34 @@ impl Rack {
         }
     }
 
-    // The fact with number `p`, none past the facts.
-    pub fn fact(&self, p: usize) -> Option<RackFact>
-        ensures at { λ r. ⌜ r ≡ factAt (now (self .entry) .loggers) (now (self .entry) .baths) p ⌝ }
-        ensures numbered { λ r. ⌜ Cases r (factCount (now (self .entry) .loggers) (now (self .entry) .baths) ≤ p) (λ f. FactNumbered (now (self .entry) .loggers) (now (self .entry) .baths) f p) ⌝ }
+    fn fact_of_number(&self, p: usize) -> RackFact
+        requires { ⌜ p < factCount (now self .loggers) (now self .baths) ⌝ }
+        ensures on { λ r. ⌜ factOn (now (self .entry) .loggers) (now (self .entry) .baths) r ≡ true ⌝ }
+        ensures number { λ r. ⌜ factNumber (now (self .entry) .loggers) (now (self .entry) .baths) r ≡ p ⌝ }
     {
         let shelf = self.pairs();
         let settled = shelf + self.loggers;
         let read = settled + self.baths;
         if p < shelf {
             let (logger, bath) = self.split(p);
-            Some(RackFact::InBath { logger, bath })
+            RackFact::InBath { logger, bath }
         } else if p < settled {
-            Some(RackFact::OnShelf { logger: p - shelf })
+            RackFact::OnShelf { logger: p - shelf }
         } else if p < read {
-            Some(RackFact::Settled { bath: p - settled })
-        } else if p < read + self.pairs() {
+            RackFact::Settled { bath: p - settled }
+        } else {
             let (logger, bath) = self.split(p - read);
-            Some(RackFact::ReadIn { logger, bath })
+            RackFact::ReadIn { logger, bath }
+        }
+    }
+
+    // The fact with number `p`, none past the facts.
+    pub fn fact(&self, p: usize) -> Option<RackFact>
+        ensures at { λ r. ⌜ r ≡ factAt (now (self .entry) .loggers) (now (self .entry) .baths) p ⌝ }
+        ensures numbered { λ r. ⌜ Cases r (factCount (now (self .entry) .loggers) (now (self .entry) .baths) ≤ p) (λ f. FactNumbered (now (self .entry) .loggers) (now (self .entry) .baths) f p) ⌝ }
+    {
+        if p < 2 * self.pairs() + self.loggers + self.baths {
+            Some(self.fact_of_number(p))
         } else {
             None
         }
