@@ -1,6 +1,5 @@
 -- A book sheet, read front to back: the verdict on it.
-use Prim.Native.Nat.{ℕ, zero, suc, _+_, _*_, _<_, _≤_}
-use mathlib.Core.Path.{_≡_}
+use Prim.Native.Nat.{ℕ, zero, suc, _+_, _*_}
 use mathlib.Core.Bool.{not}
 use mathlib.Core.List.{List}
 use lib.ListN.{getD, length}
@@ -75,12 +74,3 @@ bookSheet xs =
     then offset xs 8 (rowAt (be16 xs 2))
     then upTo (stepLists xs) (be16 xs 2)
     then must (leb (length xs) (listsAt xs (be16 xs 2))) Trailing (listsAt xs (be16 xs 2))
-
--- the lists of step a, which is there, begin at a byte, have n needs, m adds and k deletes, and stand in the sheet
-pub record Lists (xs : List ℕ) (a at n m k : ℕ) : Type 0 where
-  pub there : a < be16 xs 2
-  pub begins : at ≡ listsAt xs a
-  pub needs : n ≡ needCount xs a
-  pub adds : m ≡ addCount xs a
-  pub deletes : k ≡ deleteCount xs a
-  pub ends : at + 2 * n + 2 * m + 2 * k ≤ length xs

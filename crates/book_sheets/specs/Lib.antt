@@ -1,3 +1,4 @@
 pub mod Layout
 pub mod Content
 pub mod Laws
+pub mod Reading

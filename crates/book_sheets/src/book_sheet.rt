@@ -8,9 +8,10 @@ ghost use Rattle.books.specs.Book.{Lawful};
 ghost use Rattle.books.proofs.Shown.{lawful-shown};
 ghost use Rattle.sheets.specs.Fields.{be16};
 ghost use Rattle.sheets.specs.Verdicts.{verdictOn};
-ghost use Rattle.book_sheets.specs.Layout.{bookSheet, Lists};
+ghost use Rattle.book_sheets.specs.Layout.{bookSheet};
 ghost use Rattle.book_sheets.specs.Content.{Content, content, modelOf};
 ghost use Rattle.book_sheets.specs.Laws.{blank, SheetOf, One-sheet};
+ghost use Rattle.book_sheets.specs.Reading.{Row, NoRow, Holds};
 use crate::checks::check_book_sheet;
 use books::Book;
 use sheets::Sheet;
@@ -19,13 +20,19 @@ use sheets::fields::get_u16;
 use sheets::fields::get_u32;
 use sheets::lists::list_has;
 
-// Where the lists of a step begin, and how many facts it needs, adds and deletes.
-#[derive(Drop)]
-struct StepLists {
+// Where a list of facts begins in the sheet, and how many facts it has.
+#[derive(Clone, Copy)]
+struct FactList {
     at: usize,
-    needs: usize,
-    adds: usize,
-    deletes: usize,
+    count: usize,
+}
+
+// The facts that a step needs, adds and deletes.
+#[derive(Clone, Copy)]
+struct StepLists {
+    needs: FactList,
+    adds: FactList,
+    deletes: FactList,
 }
 
 // A step book that is read from the bytes of its sheet, which are lent and never copied.
@@ -53,29 +60,68 @@ impl<'a> BookSheet<'a> {
         ensures code { λ r. ⌜ Cases r (λ _. SheetOf (now (bytes .entry)) (content (now (bytes .entry)))) (λ _. (c : Content) → SheetOf (now (bytes .entry)) c → ⊥) ⌝ }
         ensures law { λ _. ⌜ One-sheet ⌝ }
     {
-        match check_book_sheet(bytes) {
-            Ok(()) => {
-                self.bytes = bytes;
-                Ok(())
-            }
-            Err(refused) => Err(refused.on(Sheet::Book)),
+        read_sheet(bytes)?;
+        self.bytes = bytes;
+        Ok(())
+    }
+
+    // Where the row of step `a` begins, if there is such a step.
+    fn row(&self, a: usize) -> Option<usize>
+        ensures { λ r. ⌜ BySome r (NoRow (now (now (self .entry) .bytes)) a) (λ at. Row (now (now (self .entry) .bytes)) a at) ⌝ }
+    {
+        if a < get_u16(self.bytes, 2) as usize {
+            Some(12 + 11 * a)
+        } else {
+            None
         }
     }
 
-    // The lists of step `a`, if there is such a step.
-    fn lists(&self, a: usize) -> Option<StepLists>
-        ensures { λ r. ⌜ BySome r (be16 (now (now (self .entry) .bytes)) 2 ≤ a) (λ l. Lists (now (now (self .entry) .bytes)) a (l .at) (l .needs) (l .adds) (l .deletes)) ⌝ }
+    // The lists of step `a`, which are empty where there is no such step.
+    fn lists(&self, a: usize) -> StepLists
+        ensures needs { λ r. ⌜ Holds (now (now (self .entry) .bytes)) (modelOf (content (now (now (self .entry) .bytes))) .needs a) (r .needs .at) (r .needs .count) ⌝ }
+        ensures adds { λ r. ⌜ Holds (now (now (self .entry) .bytes)) (modelOf (content (now (now (self .entry) .bytes))) .adds a) (r .adds .at) (r .adds .count) ⌝ }
+        ensures deletes { λ r. ⌜ Holds (now (now (self .entry) .bytes)) (modelOf (content (now (now (self .entry) .bytes))) .deletes a) (r .deletes .at) (r .deletes .count) ⌝ }
     {
-        if a >= get_u16(self.bytes, 2) as usize {
-            return None;
+        match self.row(a) {
+            Some(row) => {
+                let at = get_u32(self.bytes, row) as usize;
+                let needs = self.bytes[row + 8] as usize;
+                let adds = self.bytes[row + 9] as usize;
+                let deletes = self.bytes[row + 10] as usize;
+                StepLists {
+                    needs: FactList { at, count: needs },
+                    adds: FactList {
+                        at: at + 2 * needs,
+                        count: adds,
+                    },
+                    deletes: FactList {
+                        at: at + 2 * needs + 2 * adds,
+                        count: deletes,
+                    },
+                }
+            }
+            None => {
+                let none = FactList { at: 0, count: 0 };
+                StepLists {
+                    needs: none,
+                    adds: none,
+                    deletes: none,
+                }
+            }
         }
-        let row = 12 + 11 * a;
-        Some(StepLists {
-            at: get_u32(self.bytes, row) as usize,
-            needs: self.bytes[row + 8] as usize,
-            adds: self.bytes[row + 9] as usize,
-            deletes: self.bytes[row + 10] as usize,
-        })
+    }
+}
+
+// Whether the bytes are a book sheet, and what is known of them then.
+fn read_sheet(bytes: &[u8]) -> Result<(), SheetFault>
+    ensures verdict { λ r. ⌜ r ≡ verdictOn Sheet.Book (bookSheet (now (bytes .entry))) ⌝ }
+    ensures code { λ r. ⌜ Cases r (λ _. SheetOf (now (bytes .entry)) (content (now (bytes .entry)))) (λ _. (c : Content) → SheetOf (now (bytes .entry)) c → ⊥) ⌝ }
+    ensures good { λ r. ⌜ Cases r (λ _. (isOk (bookSheet (now (bytes .entry))) ≡ true) × ∥ Lawful (modelOf (content (now (bytes .entry)))) ∥₁) (λ _. Unit {0}) ⌝ }
+    ensures law { λ _. ⌜ One-sheet ⌝ }
+{
+    match check_book_sheet(bytes) {
+        Ok(()) => Ok(()),
+        Err(refused) => Err(refused.on(Sheet::Book)),
     }
 }
 
@@ -93,34 +139,24 @@ pub impl Book for BookSheet<'_> as BookSheetBook {
     }
 
     fn needs(&self, a: usize, p: usize) -> bool {
-        match self.lists(a) {
-            Some(lists) => list_has(self.bytes, lists.at, lists.needs, p),
-            None => false,
-        }
+        let list = self.lists(a).needs;
+        list_has(self.bytes, list.at, list.count, p)
     }
 
     fn adds(&self, a: usize, p: usize) -> bool {
-        match self.lists(a) {
-            Some(lists) => list_has(self.bytes, lists.at + 2 * lists.needs, lists.adds, p),
-            None => false,
-        }
+        let list = self.lists(a).adds;
+        list_has(self.bytes, list.at, list.count, p)
     }
 
     fn deletes(&self, a: usize, p: usize) -> bool {
-        match self.lists(a) {
-            Some(lists) => {
-                let at = lists.at + 2 * lists.needs + 2 * lists.adds;
-                list_has(self.bytes, at, lists.deletes, p)
-            }
-            None => false,
-        }
+        let list = self.lists(a).deletes;
+        list_has(self.bytes, list.at, list.count, p)
     }
 
     fn seconds(&self, a: usize) -> u32 {
-        if a < get_u16(self.bytes, 2) as usize {
-            get_u32(self.bytes, 12 + 11 * a + 4)
-        } else {
-            0
+        match self.row(a) {
+            Some(row) => get_u32(self.bytes, row + 4),
+            None => 0,
         }
     }
 }

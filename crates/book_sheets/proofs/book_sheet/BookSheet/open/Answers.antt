@@ -1,33 +1,9 @@
-use mathlib.Core.Path.{sym, ap, refl, _∙_}
-use Rattle.std.specs.Results.{isOk}
-use Rattle.std.specs.declared.result.Result.the-variants.{Err}
-use Rattle.std.proofs.shelf.Tests.{both-ways}
-use Rattle.sheets.specs.declared.fault.Sheet.{Sheet}
-use Rattle.sheets.specs.Verdicts.{verdictOn}
-use Rattle.book_sheets.specs.Layout.{bookSheet}
-use Rattle.book_sheets.proofs.Models.{one-sheet, sheet-lawful}
+use mathlib.Core.Path.{refl}
+use Rattle.std.proofs.shelf.Results.{err-from-errBy}
 use Rattle.book_sheets.proofs.book_sheet.BookSheet.open.Needs as need
 
-pub ghost-self : need.ghost-self
-ghost-self c =
-    let ok = ap isOk (sym (c .in-Ok .ensures tt)) in (ok, (∣ sheet-lawful (c .args .bytes .now) ok ∣₁, tt))
-
-pub returns-in-Ok : need.returns-in-Ok
-returns-in-Ok c =
-    let p = c .in-Ok .ensures tt in
-    record {
-      verdict = ap (verdictOn Sheet.Book) p;
-      after = refl;
-      code = one-sheet .sheet (c .args .bytes .now) (λ i. c .typed .bytes i .fits) (ap isOk (sym p));
-      law = one-sheet;
-    }
-
-pub returns-in-Err : need.returns-in-Err
-returns-in-Err c =
-    let q = c .in-Err .ensures tt in
-    record {
-      verdict = ap Err (c .on .ensures) ∙ ap (verdictOn Sheet.Book) q;
-      after = refl;
-      code = λ b s. both-ways (isOk (bookSheet (c .args .bytes .now))) (ap isOk (sym q)) (ap (λ v. isOk (bookSheet v)) (s .same) ∙ one-sheet .opens b (s .lawful));
-      law = one-sheet;
-    }
+pub returns-in-Break-read-sheet : need.returns-in-Break-read-sheet
+returns-in-Break-read-sheet c =
+    let p = err-from-errBy (c .from-residual .result) (c .from-residual .ensures .1) in
+    let h = c .in-Break-read-sheet .ensures tt in
+    rw (p .1, p .2) (record { verdict = h .verdict; after = refl; code = h .code; law = h .law })
