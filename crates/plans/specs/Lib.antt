@@ -1,0 +1,5 @@
+pub mod Steps
+pub mod Plans
+pub mod Order
+pub mod Places
+pub mod Laws

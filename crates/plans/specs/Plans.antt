@@ -1,0 +1,39 @@
+-- Plans: authorized levels, recognition of a plan from its start facts, and acceptance.
+use mathlib.Core.Path.{_≡_}
+use mathlib.Core.Bool.{true}
+use mathlib.Core.List.{List, [], _∷_}
+use Prim.Native.Nat.{ℕ}
+use Rattle.std.specs.shelf.Lists.{All}
+use Rattle.std.specs.shelf.Sorted.{Shuffled}
+use Rattle.books.specs.Book.{Model, Facts}
+use Rattle.plans.specs.Steps.{Authorizes, Met, passed}
+
+-- no step stands twice
+abbrev pub Distinct : List ℕ → Type 0
+Distinct [] = Unit {0}
+Distinct (a ∷ xs) = All (λ b. a ≡ b → ⊥) xs × Distinct xs
+
+module _ (m : Model) where
+  -- every earlier step authorizes every later one
+  abbrev pub InTurn : List ℕ → Type 0
+  InTurn [] = Unit {0}
+  InTurn (a ∷ xs) = All (Authorizes m a) xs × InTurn xs
+
+  -- some order of the steps has every earlier one authorize every later one
+  abbrev pub Authorized : List ℕ → Type 0
+  Authorized xs = (bs : List ℕ) × Shuffled xs bs × InTurn bs
+
+  -- from the facts E on, every level passes: each need of its steps is held as it starts, and it is authorized
+  abbrev pub Recognized : Facts → List (List ℕ) → Type 0
+  Recognized E [] = Unit {0}
+  Recognized E (xs ∷ rest) = All (Met m E) xs × Authorized xs × Recognized (passed m E xs) rest
+
+  -- the facts after all levels
+  abbrev pub finally : Facts → List (List ℕ) → Facts
+  finally E [] = E
+  finally E (xs ∷ rest) = finally (passed m E xs) rest
+
+  -- every level passes, and the final facts include the goal's
+  pub record Accepted (start goal : Facts) (plan : List (List ℕ)) : Type 0 where
+    pub recognized : Recognized start plan
+    pub reached : (p : ℕ) → goal p ≡ true → finally start plan p ≡ true
