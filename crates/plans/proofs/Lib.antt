@@ -1,3 +1,6 @@
 pub mod Runs
 pub mod Layers
 pub mod Strata
+pub mod Members
+pub mod Deciding
+pub mod Picks

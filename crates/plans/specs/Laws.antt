@@ -1,14 +1,49 @@
 -- The theorems about plans, of every lawful book.
 use mathlib.Core.Path.{_≡_}
 use mathlib.Core.Bool.{Bool, true, false, _||_}
-use mathlib.Core.List.{List, [], _∷_}
+use mathlib.Core.List.{List, [], _∷_, _++_}
+use mathlib.Core.Logic.{_↔_}
 use Prim.Native.Nat.{ℕ, _<_}
 use lib.Dec.{eqb}
 use Rattle.std.specs.shelf.Lists.{All, Has}
+use Rattle.std.specs.shelf.Sorted.{Shuffled}
 use Rattle.books.specs.Book.{Model, Lawful, Facts, after}
 use Rattle.plans.specs.Steps.{Authorizes, Disturb, Met}
 use Rattle.plans.specs.Plans.{Distinct, InTurn, Authorized, Recognized, finally}
+use Rattle.plans.specs.Order.{Before, Free, Picked, Cycle}
 use Rattle.plans.specs.Places.{Places, Precedes, InOrder, Closed, Ready, left, under, all, Lays}
+
+-- a step authorizes every other step of a level exactly where none of them is before it
+abbrev pub Freedom : Type 0
+Freedom = (m : Model) → Lawful m → (xs : List ℕ) (a : ℕ) → Free m xs a ↔ ((b : ℕ) → Has xs b → Before m b a → ⊥)
+
+-- a level is authorized exactly where it has a picked order
+abbrev pub Reaching : Type 0
+Reaching = (m : Model) → Lawful m → (xs : List ℕ) → Authorized m xs ↔ ((bs : List ℕ) × Picked m xs bs)
+
+-- a level has no second picked order
+abbrev pub Uniqueness : Type 0
+Uniqueness = (m : Model) (xs bs cs : List ℕ) → Picked m xs bs → Picked m xs cs → bs ≡ cs
+
+-- in the picked order every earlier step authorizes every later one
+abbrev pub Turning : Type 0
+Turning = (m : Model) (xs bs : List ℕ) → Picked m xs bs → InTurn m bs
+
+-- of the steps of an authorized level that wait, one authorizes every other
+abbrev pub Picking : Type 0
+Picking =
+    (m : Model) (xs : List ℕ) → Authorized m xs → (waits : ℕ → Bool) (a : ℕ) → Has xs a → waits a ≡ true
+    → (b : ℕ) × Has xs b × (waits b ≡ true) × ((c : ℕ) → Has xs c → waits c ≡ true → (b ≡ c → ⊥) → Authorizes m b c)
+
+-- where steps are left and none of them authorizes every other one left, the level is not authorized, whatever was taken before
+abbrev pub Refusing : Type 0
+Refusing =
+    (m : Model) (xs taken rest : List ℕ) → Shuffled xs (taken ++ rest) → (a : ℕ) → Has rest a
+    → ((b : ℕ) → Has rest b → Free m rest b → ⊥) → Authorized m xs → ⊥
+
+-- a level of distinct steps is authorized exactly where precedence inside it has no cycle
+abbrev pub Acyclicity : Type 0
+Acyclicity = (m : Model) → Lawful m → (xs : List ℕ) → Distinct xs → Authorized m xs ↔ (Cycle m xs → ⊥)
 
 -- two different places of which neither precedes the other do not disturb each other
 abbrev pub Independence : Type 0

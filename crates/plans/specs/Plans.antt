@@ -2,22 +2,29 @@
 use mathlib.Core.Path.{_≡_}
 use mathlib.Core.Bool.{true}
 use mathlib.Core.List.{List, [], _∷_}
-use Prim.Native.Nat.{ℕ}
+use Prim.Native.Nat.{ℕ, _<_}
 use Rattle.std.specs.shelf.Lists.{All}
 use Rattle.std.specs.shelf.Sorted.{Shuffled}
 use Rattle.books.specs.Book.{Model, Facts}
 use Rattle.plans.specs.Steps.{Authorizes, Met, passed}
 
+-- every earlier number is so related to every later one
+abbrev pub Pairwise : (ℕ → ℕ → Type 0) → List ℕ → Type 0
+Pairwise R [] = Unit {0}
+Pairwise R (a ∷ xs) = All (R a) xs × Pairwise R xs
+
 -- no step stands twice
 abbrev pub Distinct : List ℕ → Type 0
-Distinct [] = Unit {0}
-Distinct (a ∷ xs) = All (λ b. a ≡ b → ⊥) xs × Distinct xs
+Distinct = Pairwise (λ a b. a ≡ b → ⊥)
+
+-- each step is smaller than the next
+abbrev pub Ascending : List ℕ → Type 0
+Ascending = Pairwise (λ a b. a < b)
 
 module _ (m : Model) where
   -- every earlier step authorizes every later one
   abbrev pub InTurn : List ℕ → Type 0
-  InTurn [] = Unit {0}
-  InTurn (a ∷ xs) = All (Authorizes m a) xs × InTurn xs
+  InTurn = Pairwise (Authorizes m)
 
   -- some order of the steps has every earlier one authorize every later one
   abbrev pub Authorized : List ℕ → Type 0

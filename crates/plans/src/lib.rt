@@ -1,5 +1,47 @@
 // The theorems about plans: each function asks for the proof of the theorem that its contract names.
-ghost use Rattle.plans.specs.Laws.{Independence, Commutation, Needs, Apart, Progress, Feeding, Ending, Stillness, Restaging};
+ghost use Rattle.plans.specs.Laws.{Freedom, Reaching, Uniqueness, Turning, Picking, Refusing, Independence, Commutation, Needs, Apart, Progress, Feeding, Ending, Stillness, Restaging};
+
+// A step authorizes every other step of a level exactly where none of them is before it.
+pub fn free_steps_have_none_before() -> u8
+    ensures { λ _. ⌜ Freedom ⌝ }
+{
+    0
+}
+
+// A level is authorized exactly where it has a picked order.
+pub fn authorized_levels_have_a_picked_order() -> u8
+    ensures { λ _. ⌜ Reaching ⌝ }
+{
+    0
+}
+
+// A level has no second picked order.
+pub fn picked_orders_are_unique() -> u8
+    ensures { λ _. ⌜ Uniqueness ⌝ }
+{
+    0
+}
+
+// In the picked order every earlier step authorizes every later one.
+pub fn picked_orders_are_in_turn() -> u8
+    ensures { λ _. ⌜ Turning ⌝ }
+{
+    0
+}
+
+// Of the steps of an authorized level that wait, one authorizes every other.
+pub fn some_waiting_step_is_free() -> u8
+    ensures { λ _. ⌜ Picking ⌝ }
+{
+    0
+}
+
+// Where no step left authorizes every other one left, the level is not authorized.
+pub fn stuck_levels_are_not_authorized() -> u8
+    ensures { λ _. ⌜ Refusing ⌝ }
+{
+    0
+}
 
 // Two different places of which neither precedes the other do not disturb each other.
 pub fn independent_places_do_not_disturb() -> u8
