@@ -4,3 +4,4 @@ pub mod Strata
 pub mod Members
 pub mod Deciding
 pub mod Picks
+pub mod Cycles
