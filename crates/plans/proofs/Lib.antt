@@ -5,3 +5,4 @@ pub mod Members
 pub mod Deciding
 pub mod Picks
 pub mod Cycles
+pub mod Arranging

@@ -11,7 +11,7 @@ use Rattle.books.specs.Book.{Model, Lawful, Facts, after}
 use Rattle.plans.specs.Steps.{Authorizes, Disturb, Met}
 use Rattle.plans.specs.Plans.{Distinct, InTurn, Authorized, Recognized, finally}
 use Rattle.plans.specs.Order.{Before, Free, Picked, Cycle}
-use Rattle.plans.specs.Places.{Places, Precedes, InOrder, Closed, Ready, left, under, all, Lays}
+use Rattle.plans.specs.Places.{Places, Arranged, Precedes, InOrder, Closed, Ready, left, under, all, Lays}
 
 -- a step authorizes every other step of a level exactly where none of them is before it
 abbrev pub Freedom : Type 0
@@ -44,6 +44,24 @@ Refusing =
 -- a level of distinct steps is authorized exactly where precedence inside it has no cycle
 abbrev pub Acyclicity : Type 0
 Acyclicity = (m : Model) → Lawful m → (xs : List ℕ) → Distinct xs → Authorized m xs ↔ (Cycle m xs → ⊥)
+
+-- in an arranged plan the levels rise with the places, and a place precedes only higher places
+abbrev pub Ascent : Type 0
+Ascent = (m : Model) (plan : List (List ℕ)) (o : Places) → Arranged m plan o → InOrder m o
+
+-- in an arranged plan the levels are the places by level
+abbrev pub Laying : Type 0
+Laying = (m : Model) (plan : List (List ℕ)) (o : Places) → Arranged m plan o → Lays o (o .level) plan
+
+-- as many places, with the same steps and levels
+pub record Alike (o o′ : Places) : Type 0 where
+  pub size : o′ .size ≡ o .size
+  pub step : (u : ℕ) → u < o .size → o′ .step u ≡ o .step u
+  pub level : (u : ℕ) → u < o .size → o′ .level u ≡ o .level u
+
+-- a plan is arranged in one way only
+abbrev pub Likeness : Type 0
+Likeness = (m : Model) (plan : List (List ℕ)) (o o′ : Places) → Arranged m plan o → Arranged m plan o′ → Alike o o′
 
 -- two different places of which neither precedes the other do not disturb each other
 abbrev pub Independence : Type 0

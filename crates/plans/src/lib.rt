@@ -1,5 +1,5 @@
 // The theorems about plans: each function asks for the proof of the theorem that its contract names.
-ghost use Rattle.plans.specs.Laws.{Freedom, Reaching, Uniqueness, Turning, Picking, Refusing, Acyclicity, Independence, Commutation, Needs, Apart, Progress, Feeding, Ending, Stillness, Restaging};
+ghost use Rattle.plans.specs.Laws.{Freedom, Reaching, Uniqueness, Turning, Picking, Refusing, Acyclicity, Ascent, Laying, Likeness, Independence, Commutation, Needs, Apart, Progress, Feeding, Ending, Stillness, Restaging};
 
 // A step authorizes every other step of a level exactly where none of them is before it.
 pub fn free_steps_have_none_before() -> u8
@@ -46,6 +46,27 @@ pub fn stuck_levels_are_not_authorized() -> u8
 // A level of distinct steps is authorized exactly where precedence inside it has no cycle.
 pub fn acyclic_levels_are_authorized() -> u8
     ensures { λ _. ⌜ Acyclicity ⌝ }
+{
+    0
+}
+
+// In an arranged plan the levels rise with the places, and a place precedes only higher places.
+pub fn places_precede_only_higher_ones() -> u8
+    ensures { λ _. ⌜ Ascent ⌝ }
+{
+    0
+}
+
+// In an arranged plan the levels are the places by level.
+pub fn levels_are_their_places() -> u8
+    ensures { λ _. ⌜ Laying ⌝ }
+{
+    0
+}
+
+// A plan is arranged in one way only.
+pub fn plans_are_arranged_in_one_way() -> u8
+    ensures { λ _. ⌜ Likeness ⌝ }
 {
     0
 }
