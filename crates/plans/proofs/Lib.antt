@@ -6,3 +6,4 @@ pub mod Deciding
 pub mod Picks
 pub mod Cycles
 pub mod Arranging
+pub mod Taking
