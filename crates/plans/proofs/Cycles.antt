@@ -67,26 +67,21 @@ module _ (m : Model) (bs : List ℕ) (turn : InTurn m bs) where
 
 no-cycle : (m : Model) (xs : List ℕ) → Authorized m xs → Cycle m xs → ⊥
 no-cycle m xs s c =
-    let f = λ (a : ℕ) (h : Has xs a). has-shuffled xs (s .0) a (s .1) h in
+    let f = λ (a : ℕ) (h : Has xs a). has-shuffled xs (s .0) a (s .1 .shuffled) h in
     let t = f (c .0) (begins-in m xs (c .1)) in
-    omega (arith, way-earlier m (s .0) (s .2) xs f (c .1) (t .0) (t .0) (t .1) (t .1) (t .2 0) (t .2 0))
+    omega (arith, way-earlier m (s .0) (s .1 .turn) xs f (c .1) (t .0) (t .0) (t .1) (t .1) (t .2 0) (t .2 0))
 
 module _ (m : Model) (law : Lawful m) where
   -- a free step, then an authorized rest
   authorized-more : (xs : List ℕ) (a : ℕ) (rest : List ℕ) → Shuffled xs (a ∷ rest) → Distinct xs → Free m xs a → Authorized m rest → Authorized m xs
   authorized-more xs a rest s d f t =
-      let s′ = shuffled-trans xs (a ∷ rest) (a ∷ t .0) s (shuffled-cons a rest (t .0) (t .1)) in (
-        a ∷ t .0,
-        s′,
-        (
-          all-weaker (Has (t .0)) (Authorizes m a)
-              (λ b h. f b (was-in xs a (t .0) s′ b h) (λ q. out xs a (t .0) s′ d (subst (Has (t .0)) (sym q) h))) (t .0) (all-has-itself (t .0)),
-          t .2,
-        ),
-      )
+      let s′ = shuffled-trans xs (a ∷ rest) (a ∷ t .0) s (shuffled-cons a rest (t .0) (t .1 .shuffled)) in
+      let w = all-weaker (Has (t .0)) (Authorizes m a)
+      (λ b h. f b (was-in xs a (t .0) s′ b h) (λ q. out xs a (t .0) s′ d (subst (Has (t .0)) (sym q) h))) (t .0) (all-has-itself (t .0)) in
+      (a ∷ t .0, record { shuffled = s′; turn = (w, t .1 .turn) })
 
   authorized-from : (n : ℕ) (xs : List ℕ) → length xs ≡ n → Distinct xs → (Cycle m xs → ⊥) → Authorized m xs
-  authorized-from zero [] e d f = ([], shuffled-refl [], tt)
+  authorized-from zero [] e d f = ([], record { shuffled = shuffled-refl []; turn = tt })
   authorized-from zero (x ∷ xs) e d f = absurd (omega arith)
   authorized-from (suc n) [] e d f = absurd (omega arith)
   authorized-from (suc n) (x ∷ xs) e d f =

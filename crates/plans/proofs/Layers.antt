@@ -26,7 +26,7 @@ stays-step i add del x e f = grind arith
 gone-step : (i add del x : Bool) → x ≡ false → (i ≡ true → add ≡ true → ⊥) → cond i ((x && not del) || add) x ≡ false
 gone-step i add del x e f = grind arith
 
-either-way : (a b : Bool) → (a ≡ true → b ≡ true) → (b ≡ true → a ≡ true) → a ≡ b
+pub either-way : (a b : Bool) → (a ≡ true → b ≡ true) → (b ≡ true → a ≡ true) → a ≡ b
 either-way a b f g = grind arith
 
 found : (f : ℕ → Bool) (xs : List ℕ) → Decides (some f xs) ((k : ℕ) × (k < length xs) × At (λ a. f a ≡ true) xs k)

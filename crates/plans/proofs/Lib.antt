@@ -7,3 +7,4 @@ pub mod Picks
 pub mod Cycles
 pub mod Arranging
 pub mod Taking
+pub mod Singles

@@ -112,15 +112,15 @@ uniqueness m xs bs cs s t =
 
 pub reaching : Reaching
 reaching m law xs = (
-  λ s. (let r = order-of m law (length (s .0)) (s .0) refl (s .2) in
-      (r .0, record { shuffled = shuffled-trans xs (s .0) (r .0) (s .1) (r .1 .shuffled); first = r .1 .first })),
-  λ t. (t .0, t .1 .shuffled, turning m xs (t .0) (t .1)),
+  λ s. (let r = order-of m law (length (s .0)) (s .0) refl (s .1 .turn) in
+      (r .0, record { shuffled = shuffled-trans xs (s .0) (r .0) (s .1 .shuffled) (r .1 .shuffled); first = r .1 .first })),
+  λ t. (t .0, record { shuffled = t .1 .shuffled; turn = turning m xs (t .0) (t .1) }),
 )
 
 pub picking : Picking
 picking m xs s waits a h w =
-    let r = pick m waits (s .0) (s .2) a (has-shuffled xs (s .0) a (s .1) h) w in
-    (r .0, has-shuffled (s .0) xs (r .0) (shuffled-sym xs (s .0) (s .1)) (r .1), r .2, λ c i. r .3 c (has-shuffled xs (s .0) c (s .1) i))
+    let r = pick m waits (s .0) (s .1 .turn) a (has-shuffled xs (s .0) a (s .1 .shuffled) h) w in
+    (r .0, has-shuffled (s .0) xs (r .0) (shuffled-sym xs (s .0) (s .1 .shuffled)) (r .1), r .2, λ c i. r .3 c (has-shuffled xs (s .0) c (s .1 .shuffled) i))
 
 -- a is one of xs
 is-in : List ℕ → ℕ → Bool

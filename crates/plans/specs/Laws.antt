@@ -5,11 +5,11 @@ use mathlib.Core.List.{List, [], _∷_, _++_}
 use mathlib.Core.Logic.{_↔_}
 use Prim.Native.Nat.{ℕ, _<_}
 use lib.Dec.{eqb}
-use Rattle.std.specs.shelf.Lists.{All, Has}
+use Rattle.std.specs.shelf.Lists.{All, Each, Has, joined}
 use Rattle.std.specs.shelf.Sorted.{Shuffled}
 use Rattle.books.specs.Book.{Model, Lawful, Facts, after}
 use Rattle.plans.specs.Steps.{Authorizes, Disturb, Met}
-use Rattle.plans.specs.Plans.{Distinct, InTurn, Authorized, Recognized, finally}
+use Rattle.plans.specs.Plans.{Distinct, InTurn, AuthorizedOrder, Authorized, Recognized, singly, finally}
 use Rattle.plans.specs.Order.{Before, Free, Picked, Cycle}
 use Rattle.plans.specs.Places.{Places, Arranged, Precedes, InOrder, Closed, Ready, left, under, all, Lays}
 
@@ -40,6 +40,12 @@ abbrev pub Refusing : Type 0
 Refusing =
     (m : Model) (xs taken rest : List ℕ) → Shuffled xs (taken ++ rest) → (a : ℕ) → Has rest a
     → ((b : ℕ) → Has rest b → Free m rest b → ⊥) → Authorized m xs → ⊥
+
+-- done singly, every authorized order of each level, one level after the other, leaves the plan's final facts
+abbrev pub Singling : Type 0
+Singling =
+    (m : Model) (plan orders : List (List ℕ)) → Each (AuthorizedOrder m) plan orders → (E : Facts) (p : ℕ)
+    → singly m E (joined (λ bs. bs) orders) p ≡ finally m E plan p
 
 -- a level of distinct steps is authorized exactly where precedence inside it has no cycle
 abbrev pub Acyclicity : Type 0

@@ -5,7 +5,7 @@ use mathlib.Core.List.{List, [], _∷_}
 use Prim.Native.Nat.{ℕ, _<_}
 use Rattle.std.specs.shelf.Lists.{All}
 use Rattle.std.specs.shelf.Sorted.{Shuffled}
-use Rattle.books.specs.Book.{Model, Facts}
+use Rattle.books.specs.Book.{Model, Facts, after}
 use Rattle.plans.specs.Steps.{Authorizes, Met, passed}
 
 -- every earlier number is so related to every later one
@@ -26,14 +26,24 @@ module _ (m : Model) where
   abbrev pub InTurn : List ℕ → Type 0
   InTurn = Pairwise (Authorizes m)
 
-  -- some order of the steps has every earlier one authorize every later one
+  -- bs is an order of the steps xs in which every earlier one authorizes every later one
+  pub record AuthorizedOrder (xs bs : List ℕ) : Type 0 where
+    pub shuffled : Shuffled xs bs
+    pub turn : InTurn bs
+
+  -- the steps have such an order
   abbrev pub Authorized : List ℕ → Type 0
-  Authorized xs = (bs : List ℕ) × Shuffled xs bs × InTurn bs
+  Authorized xs = (bs : List ℕ) × AuthorizedOrder xs bs
 
   -- from the facts E on, every level passes: each need of its steps is held as it starts, and it is authorized
   abbrev pub Recognized : Facts → List (List ℕ) → Type 0
   Recognized E [] = Unit {0}
   Recognized E (xs ∷ rest) = All (Met m E) xs × Authorized xs × Recognized (passed m E xs) rest
+
+  -- the facts after the steps are done singly, in this order
+  abbrev pub singly : Facts → List ℕ → Facts
+  singly E [] = E
+  singly E (a ∷ xs) = singly (after m E a) xs
 
   -- the facts after all levels
   abbrev pub finally : Facts → List (List ℕ) → Facts

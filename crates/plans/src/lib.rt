@@ -1,5 +1,5 @@
 // The theorems about plans: each function asks for the proof of the theorem that its contract names.
-ghost use Rattle.plans.specs.Laws.{Freedom, Reaching, Uniqueness, Turning, Picking, Refusing, Acyclicity, Ascent, Laying, Likeness, Independence, Commutation, Needs, Apart, Progress, Feeding, Ending, Stillness, Restaging};
+ghost use Rattle.plans.specs.Laws.{Freedom, Reaching, Uniqueness, Turning, Picking, Refusing, Singling, Acyclicity, Ascent, Laying, Likeness, Independence, Commutation, Needs, Apart, Progress, Feeding, Ending, Stillness, Restaging};
 
 // A step authorizes every other step of a level exactly where none of them is before it.
 pub fn free_steps_have_none_before() -> u8
@@ -39,6 +39,13 @@ pub fn some_waiting_step_is_free() -> u8
 // Where no step left authorizes every other one left, the level is not authorized.
 pub fn stuck_levels_are_not_authorized() -> u8
     ensures { λ _. ⌜ Refusing ⌝ }
+{
+    0
+}
+
+// Every authorized order of each level, done singly, leaves the final facts of the plan.
+pub fn authorized_orders_end_alike() -> u8
+    ensures { λ _. ⌜ Singling ⌝ }
 {
     0
 }
