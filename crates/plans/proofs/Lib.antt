@@ -8,3 +8,4 @@ pub mod Cycles
 pub mod Arranging
 pub mod Taking
 pub mod Singles
+pub mod Tiny

@@ -3,3 +3,4 @@ pub mod Plans
 pub mod Order
 pub mod Places
 pub mod Laws
+pub mod Tiny

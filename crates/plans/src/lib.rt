@@ -1,5 +1,6 @@
 // The theorems about plans: each function asks for the proof of the theorem that its contract names.
 ghost use Rattle.plans.specs.Laws.{Freedom, Reaching, Uniqueness, Turning, Picking, Refusing, Singling, Acyclicity, Ascent, Laying, Likeness, Independence, Commutation, Needs, Apart, Progress, Feeding, Ending, Stillness, Restaging};
+ghost use Rattle.plans.specs.Tiny.{Premises-met};
 
 // A step authorizes every other step of a level exactly where none of them is before it.
 pub fn free_steps_have_none_before() -> u8
@@ -137,6 +138,13 @@ pub fn places_of_a_stratum_do_not_disturb() -> u8
 // The strata as levels are a recognized plan with the same final facts.
 pub fn strata_are_recognized() -> u8
     ensures { λ _. ⌜ Restaging ⌝ }
+{
+    0
+}
+
+// What the theorems ask for can be met.
+pub fn premises_can_be_met() -> u8
+    ensures { λ _. ⌜ Premises-met ⌝ }
 {
     0
 }
