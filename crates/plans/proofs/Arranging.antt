@@ -4,20 +4,21 @@ use mathlib.Core.List.{List, [], _∷_, _++_}
 use mathlib.Core.Logic.{_⊎_, inl, inr}
 use Prim.Native.Nat.{ℕ, zero, suc, _+_, _-_, _<_, _≤_}
 use native.Mathlib.Omega.{arith}
-use lib.ListN.{length, getD}
-use Rattle.std.specs.shelf.Lists.{Has}
+use lib.ListN.{length, getD, replicate}
+use Rattle.std.specs.shelf.Lists.{All, Has}
 use Rattle.std.proofs.shelf.Elements.{has-getD}
-use Rattle.std.proofs.shelf.Lists.{length-append, getD-append-left, getD-append-add}
+use Rattle.std.proofs.shelf.Lists.{length-append, getD-append-left, getD-append-add, length-replicate, getD-replicate}
 use Rattle.std.proofs.shelf.Sorted.{has-shuffled, shuffled-sym}
 use Rattle.std.proofs.shelf.Tests.{cases-lt, cases-order}
-use Rattle.books.specs.Book.{Model}
+use Rattle.books.specs.Book.{Model, Lawful}
 use Rattle.plans.specs.Steps.{Authorizes}
+use Rattle.plans.specs.Plans.{Authorized}
 use Rattle.plans.specs.Order.{Picked}
 use Rattle.plans.specs.Places.{Places, Stands, ArrangedFrom, Arranged, Precedes, InOrder, Row, Lays}
-use Rattle.plans.specs.Laws.{Ascent, Laying, Alike, Likeness}
+use Rattle.plans.specs.Laws.{Arranging, Ascent, Laying, Alike, Likeness}
 use Rattle.plans.proofs.Members.{pairwise-getD}
 use Rattle.plans.proofs.Layers.{LaysFrom}
-use Rattle.plans.proofs.Picks.{turning, uniqueness}
+use Rattle.plans.proofs.Picks.{turning, uniqueness, reaching}
 
 -- o and o′ have the same places below n
 pub record Agree (n : ℕ) (o o′ : Places) : Type 0 where
@@ -182,3 +183,62 @@ module _ (m : Model) (o o′ : Places) (agree : Agree (o .size) o o′) (xs bs :
 
   pub arranged-more : (plan : List (List ℕ)) → Arranged m plan o → Stands o′ (o .size) (length plan) bs → Arranged m (plan ++ xs ∷ []) o′
   arranged-more plan a s = more-from 0 0 plan a (let q : 0 + length plan ≡ length plan = omega arith in rw q s)
+
+-- the places that two lists give
+listed : List ℕ → List ℕ → Places
+listed steps levels = record { size = length steps; step = λ u. getD steps u 0; level = λ u. getD levels u 0 }
+
+agree-trans : (n k : ℕ) (o p q : Places) → n ≤ k → Agree n o p → Agree k p q → Agree n o q
+agree-trans n k o p q l a b =
+    record { step = λ u h. b .step u (omega arith) ∙ a .step u h; level = λ u h. b .level u (omega arith) ∙ a .level u h }
+
+module _ (m : Model) where
+  -- places that go on where steps and levels end, with the plan's levels from i on
+  record Goes-on (steps levels : List ℕ) (i : ℕ) (plan : List (List ℕ)) : Type 0 where
+    pub places : Places
+    pub agree : Agree (length steps) (listed steps levels) places
+    pub arranged : ArrangedFrom m places (length steps) i plan
+
+  module _ (steps levels bs : List ℕ) (i : ℕ) (same : length levels ≡ length steps) where
+    steps′ : List ℕ
+    steps′ = steps ++ bs
+
+    levels′ : List ℕ
+    levels′ = levels ++ replicate (length bs) i
+
+    same′ : length levels′ ≡ length steps′
+    unfolding steps′ levels′
+    same′ = omega (arith, length-append steps bs, length-append levels (replicate (length bs) i), length-replicate (length bs) i)
+
+    longer : length steps′ ≡ length steps + length bs
+    unfolding steps′
+    longer = length-append steps bs
+
+    agree′ : Agree (length steps) (listed steps levels) (listed steps′ levels′)
+    unfolding listed steps′ levels′
+    agree′ = record { step = λ u l. getD-append-left steps bs 0 u l; level = λ u l. getD-append-left levels (replicate (length bs) i) 0 u (omega arith) }
+
+    stands′ : Stands (listed steps′ levels′) (length steps) i bs
+    unfolding listed steps′ levels′
+    stands′ = record {
+      step = λ k l. getD-append-add steps bs k 0;
+      level = λ k l. rw (← same) (getD-append-add levels (replicate (length bs) i) k 0 ∙ getD-replicate (length bs) k i 0 l);
+    }
+
+  goes-on : Lawful m → (plan : List (List ℕ)) → All (Authorized m) plan → (steps levels : List ℕ) (i : ℕ) → length levels ≡ length steps → Goes-on steps levels i plan
+  unfolding listed
+  goes-on law [] a steps levels i e =
+      record { places = listed steps levels; agree = record { step = λ u l. refl; level = λ u l. refl }; arranged = refl }
+  goes-on law (xs ∷ rest) a steps levels i e =
+      let t = reaching m law xs .0 (a .0) in
+      let bs = t .0 in
+      let r = goes-on law rest (a .1) (steps′ steps levels bs i e) (levels′ steps levels bs i e) (suc i) (same′ steps levels bs i e) in
+      let l = longer steps levels bs i e in
+      record {
+        places = r .places;
+        agree = agree-trans (length steps) _ _ _ _ (omega arith) (agree′ steps levels bs i e) (r .agree);
+        arranged = (bs, t .1, stands-kept _ (r .places) (length steps) i bs (subst (λ n. Agree n (listed (steps′ steps levels bs i e) (levels′ steps levels bs i e)) (r .places)) l (r .agree)) (stands′ steps levels bs i e), rw l at (r .arranged));
+      }
+
+pub arranging : Arranging
+arranging m law plan a = let r = goes-on m law plan a [] [] 0 refl in (r .places, r .arranged)

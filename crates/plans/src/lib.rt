@@ -1,5 +1,5 @@
 // The theorems about plans: each function asks for the proof of the theorem that its contract names.
-ghost use Rattle.plans.specs.Laws.{Freedom, Reaching, Uniqueness, Turning, Picking, Refusing, Singling, Acyclicity, Ascent, Laying, Likeness, Independence, Commutation, Needs, Apart, Progress, Feeding, Ending, Stillness, Restaging};
+ghost use Rattle.plans.specs.Laws.{Freedom, Reaching, Uniqueness, Turning, Picking, Refusing, Singling, Acyclicity, Ascent, Laying, Arranging, Likeness, Independence, Commutation, Needs, Apart, Progress, Feeding, Ending, Stillness, Restaging};
 ghost use Rattle.plans.specs.Tiny.{Premises-met};
 
 // A step authorizes every other step of a level exactly where none of them is before it.
@@ -68,6 +68,13 @@ pub fn places_precede_only_higher_ones() -> u8
 // In an arranged plan the levels are the places by level.
 pub fn levels_are_their_places() -> u8
     ensures { λ _. ⌜ Laying ⌝ }
+{
+    0
+}
+
+// A plan of authorized levels can be arranged.
+pub fn authorized_plans_can_be_arranged() -> u8
+    ensures { λ _. ⌜ Arranging ⌝ }
 {
     0
 }
