@@ -128,8 +128,8 @@ module _ (m : Model) (law : Lawful m) (o : Places) (E : Facts) (rank : ℕ → �
   feeds s [] F l e r h k i = absurd (omega (arith, l h k))
   feeds s (xs ∷ rest) F l e r h k i =
       elim (cases-lt s (rank h)) [
-        | inl n ↦ feeds (suc s) rest (passed m F xs) (l .1) (onward s F xs (l .0) e) (r .2) h k n
-        | inr n ↦ (let q : rank h ≡ s = omega arith in λ p t. rw (q, ← (e p)) (all-has (Met m F) xs (o .step h) (r .0) (l .0 .holds h k q) p t))
+        | inl n ↦ feeds (suc s) rest (passed m F xs) (l .1) (onward s F xs (l .0) e) (r .1) h k n
+        | inr n ↦ (let q : rank h ≡ s = omega arith in λ p t. rw (q, ← (e p)) (all-has (Met m F) xs (o .step h) (r .0 .met) (l .0 .holds h k q) p t))
       ]
 
 pub start : (m : Model) (o : Places) (E : Facts) (rank : ℕ → ℕ) (p : ℕ) → E p ≡ left m o E (under rank 0) p

@@ -54,8 +54,10 @@ module _ (m : Model) (law : Lawful m) (o : Places) (up : InOrder m o) (E : Facts
   pub recognized : (s : ℕ) (plan : List (List ℕ)) (F : Facts) → LaysFrom o stratum s plan → Leaves m o E stratum s F → All Distinct plan → Recognized m F plan
   recognized s [] F l e d = tt
   recognized s (xs ∷ rest) F l e d = (
-    all-weaker (Has xs) (Met m F) (λ a i. let w = l .0 .only a i in subst (Met m F) (w .3) (met s F e (w .0) (w .1) (w .2))) xs (all-has-itself xs),
-    (xs, record { shuffled = shuffled-refl xs; turn = in-turn m xs (calm s xs (l .0)) xs (all-has-itself xs) (d .0) }),
+    record {
+      met = all-weaker (Has xs) (Met m F) (λ a i. let w = l .0 .only a i in subst (Met m F) (w .3) (met s F e (w .0) (w .1) (w .2))) xs (all-has-itself xs);
+      authorized = (xs, record { shuffled = shuffled-refl xs; turn = in-turn m xs (calm s xs (l .0)) xs (all-has-itself xs) (d .0) });
+    },
     recognized (suc s) rest (passed m F xs) (l .1) (onward m law o E stratum (by-stratum m o up stratum climbs) s F xs (l .0) e) (d .1),
   )
 

@@ -18,6 +18,7 @@ use Rattle.plans.specs.Order.{Leads, Picked}
 use Rattle.plans.specs.Places.{Places, Stands, Arranged, Precedes, Row, Lays}
 use Rattle.plans.specs.Laws.{Climbs}
 use Rattle.plans.specs.Tiny.{tiny, plan, places, stratum, strata, Premises-met}
+use Rattle.plans.proofs.Preceding.{not-itself, not-back}
 use Rattle.plans.proofs.Members.{has-none, has-first, has-more, has-cases}
 
 count-below : (P : Facts) (n : ℕ) → count P n ≤ n
@@ -94,22 +95,17 @@ arranged = (1 ∷ 0 ∷ [], order, record { step = first-steps; level = first-le
 accepted : Accepted tiny (λ p. eqb p 0) (λ p. eqb p 1) plan
 accepted = record {
   recognized = (
-    (λ p n. grind (arith, tells), (λ p n. grind (arith, tells), tt)),
-    (1 ∷ 0 ∷ [], record { shuffled = order .shuffled; turn = ((one-zero, tt), (tt, tt)) }),
-    ((λ p n. grind (arith, tells), tt), (2 ∷ [], record { shuffled = shuffled-refl (2 ∷ []); turn = (tt, tt) }), tt),
+    record {
+      met = (λ p n. grind (arith, tells), (λ p n. grind (arith, tells), tt));
+      authorized = (1 ∷ 0 ∷ [], record { shuffled = order .shuffled; turn = ((one-zero, tt), (tt, tt)) });
+    },
+    (
+      record { met = (λ p n. grind (arith, tells), tt); authorized = (2 ∷ [], record { shuffled = shuffled-refl (2 ∷ []); turn = (tt, tt) }) },
+      tt,
+    ),
   );
   reached = λ p g. grind (arith, tells);
 }
-
--- no place precedes itself
-itself : (u : ℕ) → Precedes tiny places u u → ⊥
-itself u (inl s) = s .1 refl
-itself u (inr s) = omega (arith, s .0)
-
--- nor one of an earlier level
-later : (u v : ℕ) → places .level v < places .level u → Precedes tiny places u v → ⊥
-later u v l (inl s) = omega (arith, s .0)
-later u v l (inr s) = omega (arith, s .0)
 
 second-first : Precedes tiny places 1 0 → ⊥
 second-first (inl s) = s .2 one-zero
@@ -120,17 +116,17 @@ second-third (inl s) = omega (arith, s .0)
 second-third (inr s) = elim (s .1) [ inl f ↦ f zero-two | inr (inl f) ↦ f two-zero | inr (inr t) ↦ false≢true (t .1) ]
 
 climbs : Climbs tiny places stratum
-climbs zero zero k l q = absurd (itself 0 q)
+climbs zero zero k l q = absurd (not-itself tiny places 0 0 q)
 climbs zero (suc zero) k l q = omega arith
 climbs zero (suc (suc zero)) k l q = omega arith
 climbs zero (suc (suc (suc v))) k l q = absurd (omega arith)
 climbs (suc zero) zero k l q = absurd (second-first q)
-climbs (suc zero) (suc zero) k l q = absurd (itself 1 q)
+climbs (suc zero) (suc zero) k l q = absurd (not-itself tiny places 1 1 q)
 climbs (suc zero) (suc (suc zero)) k l q = absurd (second-third q)
 climbs (suc zero) (suc (suc (suc v))) k l q = absurd (omega arith)
-climbs (suc (suc zero)) zero k l q = absurd (later 2 0 (omega arith) q)
-climbs (suc (suc zero)) (suc zero) k l q = absurd (later 2 1 (omega arith) q)
-climbs (suc (suc zero)) (suc (suc zero)) k l q = absurd (itself 2 q)
+climbs (suc (suc zero)) zero k l q = absurd (not-back tiny places 2 0 (omega arith) q)
+climbs (suc (suc zero)) (suc zero) k l q = absurd (not-back tiny places 2 1 (omega arith) q)
+climbs (suc (suc zero)) (suc (suc zero)) k l q = absurd (not-itself tiny places 2 2 q)
 climbs (suc (suc zero)) (suc (suc (suc v))) k l q = absurd (omega arith)
 climbs (suc (suc (suc u))) v k l q = absurd (omega arith)
 

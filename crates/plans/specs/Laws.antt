@@ -5,13 +5,20 @@ use mathlib.Core.List.{List, [], _∷_, _++_}
 use mathlib.Core.Logic.{_↔_}
 use Prim.Native.Nat.{ℕ, _<_}
 use lib.Dec.{eqb}
+use lib.ListN.{length, getD, take}
 use Rattle.std.specs.shelf.Lists.{All, Each, Has, joined}
 use Rattle.std.specs.shelf.Sorted.{Shuffled}
 use Rattle.books.specs.Book.{Model, Lawful, Facts, after}
 use Rattle.plans.specs.Steps.{Authorizes, Disturb, Met}
-use Rattle.plans.specs.Plans.{Distinct, InTurn, AuthorizedOrder, Authorized, Recognized, singly, finally}
+use Rattle.plans.specs.Plans.{Distinct, InTurn, AuthorizedOrder, Authorized, Passes, Recognized, singly, finally}
 use Rattle.plans.specs.Order.{Before, Free, Picked, Cycle}
 use Rattle.plans.specs.Places.{Places, Arranged, Precedes, InOrder, Closed, Ready, left, under, all, Lays}
+
+-- LEVELS
+
+-- a level of distinct steps is authorized exactly where precedence inside it has no cycle
+abbrev pub Acyclicity : Type 0
+Acyclicity = (m : Model) → Lawful m → (xs : List ℕ) → Distinct xs → Authorized m xs ↔ (Cycle m xs → ⊥)
 
 -- a step authorizes every other step of a level exactly where none of them is before it
 abbrev pub Freedom : Type 0
@@ -41,15 +48,19 @@ Refusing =
     (m : Model) (xs taken rest : List ℕ) → Shuffled xs (taken ++ rest) → (a : ℕ) → Has rest a
     → ((b : ℕ) → Has rest b → Free m rest b → ⊥) → Authorized m xs → ⊥
 
+-- a plan is recognized exactly where each level passes from the facts that those before it leave
+abbrev pub Recognition : Type 0
+Recognition =
+    (m : Model) (E : Facts) (plan : List (List ℕ))
+    → Recognized m E plan ↔ ((i : ℕ) → i < length plan → Passes m (finally m E (take i plan)) (getD plan i []))
+
 -- done singly, every authorized order of each level, one level after the other, leaves the plan's final facts
 abbrev pub Singling : Type 0
 Singling =
     (m : Model) (plan orders : List (List ℕ)) → Each (AuthorizedOrder m) plan orders → (E : Facts) (p : ℕ)
     → singly m E (joined (λ bs. bs) orders) p ≡ finally m E plan p
 
--- a level of distinct steps is authorized exactly where precedence inside it has no cycle
-abbrev pub Acyclicity : Type 0
-Acyclicity = (m : Model) → Lawful m → (xs : List ℕ) → Distinct xs → Authorized m xs ↔ (Cycle m xs → ⊥)
+-- PLACES
 
 -- in an arranged plan the levels rise with the places, and a place precedes only higher places
 abbrev pub Ascent : Type 0
@@ -72,6 +83,8 @@ pub record Alike (o o′ : Places) : Type 0 where
 -- a plan is arranged in one way only
 abbrev pub Likeness : Type 0
 Likeness = (m : Model) (plan : List (List ℕ)) (o o′ : Places) → Arranged m plan o → Arranged m plan o′ → Alike o o′
+
+-- RUNS: some places are done, the others not
 
 -- two different places of which neither precedes the other do not disturb each other
 abbrev pub Independence : Type 0
@@ -122,6 +135,8 @@ abbrev pub Ending : Type 0
 Ending =
     (m : Model) → Lawful m → (o : Places) → InOrder m o → (plan : List (List ℕ)) → Lays o (o .level) plan
     → (E : Facts) (p : ℕ) → left m o E all p ≡ finally m E plan p
+
+-- STRATA
 
 -- a stratum that is higher than those of all preceding places
 abbrev pub Climbs : Model → Places → (ℕ → ℕ) → Type 0

@@ -35,10 +35,15 @@ module _ (m : Model) where
   abbrev pub Authorized : List ℕ → Type 0
   Authorized xs = (bs : List ℕ) × AuthorizedOrder xs bs
 
-  -- from the facts E on, every level passes: each need of its steps is held as it starts, and it is authorized
+  -- the level xs passes from the facts E: every fact that its steps need is held, and it is authorized
+  pub record Passes (E : Facts) (xs : List ℕ) : Type 0 where
+    pub met : All (Met m E) xs
+    pub authorized : Authorized xs
+
+  -- from the facts E on, every level passes
   abbrev pub Recognized : Facts → List (List ℕ) → Type 0
   Recognized E [] = Unit {0}
-  Recognized E (xs ∷ rest) = All (Met m E) xs × Authorized xs × Recognized (passed m E xs) rest
+  Recognized E (xs ∷ rest) = Passes E xs × Recognized (passed m E xs) rest
 
   -- the facts after the steps are done singly, in this order
   abbrev pub singly : Facts → List ℕ → Facts

@@ -1,5 +1,5 @@
 // The theorems about plans: each function asks for the proof of the theorem that its contract names.
-ghost use Rattle.plans.specs.Laws.{Freedom, Reaching, Uniqueness, Turning, Picking, Refusing, Singling, Acyclicity, Ascent, Laying, Arranging, Likeness, Independence, Commutation, Needs, Apart, Progress, Feeding, Ending, Stillness, Restaging};
+ghost use Rattle.plans.specs.Laws.{Freedom, Reaching, Uniqueness, Turning, Picking, Refusing, Recognition, Singling, Acyclicity, Ascent, Laying, Arranging, Likeness, Independence, Commutation, Needs, Apart, Progress, Feeding, Ending, Stillness, Restaging};
 ghost use Rattle.plans.specs.Tiny.{Premises-met};
 
 // A step authorizes every other step of a level exactly where none of them is before it.
@@ -40,6 +40,13 @@ pub fn some_waiting_step_is_free() -> u8
 // Where no step left authorizes every other one left, the level is not authorized.
 pub fn stuck_levels_are_not_authorized() -> u8
     ensures { λ _. ⌜ Refusing ⌝ }
+{
+    0
+}
+
+// A plan is recognized exactly where each level passes from the facts that those before it leave.
+pub fn recognition_goes_level_by_level() -> u8
+    ensures { λ _. ⌜ Recognition ⌝ }
 {
     0
 }
