@@ -7,9 +7,14 @@ use native.Mathlib.Omega.{arith}
 use Rattle.std.specs.Orderings.{Decides, When}
 use Rattle.std.proofs.shelf.Tests.{and-from, and-parts, both-ways}
 use Rattle.std.proofs.shelf.Ways.{decides-not, decides-or, decides-like}
-use Rattle.books.specs.Book.{Model}
+use Rattle.books.specs.Book.{Model, Facts}
 use Rattle.plans.specs.Steps.{Authorizes, Feeds}
 use Rattle.plans.specs.Places.{Places, Precedes}
+
+-- a test that finds a fact in two sets, or none, decides whether there is one
+pub decides-shared : (f g : Facts) (r : Bool) → When r ((p : ℕ) × ((f p && g p) ≡ true)) ((p : ℕ) → (f p && g p) ≡ false) → Decides r ((p : ℕ) × ((f p && g p) ≡ true))
+decides-shared f g true h = (λ e. h, λ t. refl)
+decides-shared f g false h = (λ e. absurd (both-ways false refl e), λ t. absurd (both-ways _ (h (t .0)) (t .1)))
 
 module _ (m : Model) (u v : ℕ) where
   -- two tests of shared facts decide whether a step authorizes another

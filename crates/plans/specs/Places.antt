@@ -43,6 +43,7 @@ module _ (m : Model) where
         (o .level u < o .level v)
         × ((Authorizes m (o .step u) (o .step v) → ⊥) ⊎ ((Authorizes m (o .step v) (o .step u) → ⊥) ⊎ Feeds m (o .step u) (o .step v)))
 
+    -- u precedes v, beside it in one level or from an earlier one
     abbrev pub Precedes : ℕ → ℕ → Type 0
     Precedes u v = PrecedesBeside u v ⊎ PrecedesAcross u v
 

@@ -17,7 +17,7 @@ Pairwise R (a ∷ xs) = All (R a) xs × Pairwise R xs
 abbrev pub Distinct : List ℕ → Type 0
 Distinct = Pairwise (λ a b. a ≡ b → ⊥)
 
--- each step is smaller than the next
+-- every earlier step is smaller than every later one
 abbrev pub Ascending : List ℕ → Type 0
 Ascending = Pairwise (λ a b. a < b)
 
