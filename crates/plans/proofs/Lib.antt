@@ -1,0 +1,13 @@
+pub mod Members
+pub mod Deciding
+pub mod Preceding
+pub mod Runs
+pub mod Layers
+pub mod Strata
+pub mod Picks
+pub mod Taking
+pub mod Cycles
+pub mod Arranging
+pub mod Singles
+pub mod Recognizing
+pub mod Tiny
