@@ -1,10 +1,10 @@
-// Opens the book and the task of the folder it runs in, and says what they are.
-ghost use Prim.Native.Nat.{_≤_};
-ghost use Rattle.std.specs.Of.Vec.{vec-len};
-ghost use Rattle.std.specs.Vec.{made};
+// Opens the book and the task of the folder it runs in, says what they are, and checks the plan.
 use book_sheets::BookSheet;
 use book_sheets::BookSheetBook;
 use books::Book;
+use checks::PlanFaultDisplay;
+use checks::check;
+use facts::FactSet;
 use sheets::SheetFaultDisplay;
 use std::error::AnyError;
 use std::fs;
@@ -35,40 +35,58 @@ fn read_sheet(rt: &LibcRuntime, name: &str) -> io::Result<Vec<u8>> {
     }
 }
 
-fn print_book(rt: &LibcRuntime, bytes: &[u8]) -> io::Result<()> {
-    let mut book = BookSheet::new();
-    match book.open(bytes) {
-        Ok(()) => {
-            let facts = book.facts();
-            let steps = book.steps();
-            println!(rt, "book opened: facts {facts} steps {steps}")
-        }
-        Err(fault) => println!(rt, "book {fault}"),
-    }
+fn print_book(rt: &LibcRuntime, book: &BookSheet) -> io::Result<()> {
+    let facts = book.facts();
+    let steps = book.steps();
+    println!(rt, "book opened: facts {facts} steps {steps}")
 }
 
-fn print_task(rt: &LibcRuntime, bytes: &[u8]) -> io::Result<()> {
-    let mut task = TaskSheet::new();
-    match task.open(bytes) {
-        Ok(()) => {
-            let facts = task.facts();
-            let steps = task.steps();
-            let levels = task.levels();
-            let total = task.total();
-            println!(
-                rt,
-                "task opened: facts {facts} steps {steps} levels {levels} places {total}"
-            )
+fn print_task(rt: &LibcRuntime, task: &TaskSheet) -> io::Result<()> {
+    let facts = task.facts();
+    let steps = task.steps();
+    let levels = task.levels();
+    let total = task.total();
+    println!(
+        rt,
+        "task opened: facts {facts} steps {steps} levels {levels} places {total}"
+    )
+}
+
+fn print_facts(rt: &LibcRuntime, facts: &FactSet) -> io::Result<()> {
+    print!(rt, "accepted: facts")?;
+    for p in 0..1024 {
+        if facts.contains(p) {
+            print!(rt, " {p}")?;
         }
-        Err(fault) => println!(rt, "task {fault}"),
+    }
+    println!(rt, "")
+}
+
+// Checks the plan of the task by the book.
+fn print_check(rt: &LibcRuntime, book: &BookSheet, task: &TaskSheet) -> io::Result<()> {
+    let mut facts = FactSet::empty();
+    match check(book, task, &mut facts) {
+        Ok(()) => print_facts(rt, &facts),
+        Err(fault) => println!(rt, "plan {fault}"),
     }
 }
 
 fn run(rt: &LibcRuntime) -> Result<(), AnyError> {
-    let book = read_sheet(rt, "book.bin")?;
-    print_book(rt, book.as_slice())?;
-    let task = read_sheet(rt, "task.bin")?;
-    print_task(rt, task.as_slice())?;
+    let book_bytes = read_sheet(rt, "book.bin")?;
+    let mut book = BookSheet::new();
+    if let Err(fault) = book.open(book_bytes.as_slice()) {
+        println!(rt, "book {fault}")?;
+        return Ok(());
+    }
+    print_book(rt, &book)?;
+    let task_bytes = read_sheet(rt, "task.bin")?;
+    let mut task = TaskSheet::new();
+    if let Err(fault) = task.open(task_bytes.as_slice()) {
+        println!(rt, "task {fault}")?;
+        return Ok(());
+    }
+    print_task(rt, &task)?;
+    print_check(rt, &book, &task)?;
     Ok(())
 }
 

@@ -1,0 +1,10 @@
+pub mod Faults
+pub mod Checked
+pub mod Rows
+pub mod Tables
+pub mod Shared
+pub mod Drafts
+pub mod Levels
+pub mod Arrangements
+pub mod Bytes
+pub mod FaultText
