@@ -1,12 +1,10 @@
 ghost use mathlib.Core.Path.{_≡_};
 ghost use mathlib.Core.Bool.{true};
-ghost use Prim.Native.Nat.{ℕ, _≤_};
 ghost use denote.Ref.{now};
 ghost use Rattle.std.specs.Options.{Cases as BySome};
 ghost use Rattle.std.specs.Results.{Cases, isOk};
 ghost use Rattle.books.specs.Book.{Lawful};
 ghost use Rattle.books.proofs.Shown.{lawful-shown};
-ghost use Rattle.sheets.specs.Fields.{be16};
 ghost use Rattle.sheets.specs.Verdicts.{verdictOn};
 ghost use Rattle.book_sheets.specs.Layout.{bookSheet};
 ghost use Rattle.book_sheets.specs.Content.{Content, content, modelOf};
@@ -60,9 +58,13 @@ impl<'a> BookSheet<'a> {
         ensures code { λ r. ⌜ Cases r (λ _. SheetOf (now (bytes .entry)) (content (now (bytes .entry)))) (λ _. (c : Content) → SheetOf (now (bytes .entry)) c → ⊥) ⌝ }
         ensures law { λ _. ⌜ One-sheet ⌝ }
     {
-        read_sheet(bytes)?;
-        self.bytes = bytes;
-        Ok(())
+        match read_sheet(bytes) {
+            Ok(()) => {
+                self.bytes = bytes;
+                Ok(())
+            }
+            Err(fault) => Err(fault),
+        }
     }
 
     // Where the row of step `a` begins, if there is such a step.
@@ -167,39 +169,8 @@ mod tests {
     use std::test::*;
 
     // Three facts and one step of 1,000,000 seconds, that needs 0 and 2, adds 1 and deletes 2.
-    const ONE: [u8; 31] = [
-        0,
-        3,
-        0,
-        1,
-        0,
-        0,
-        0,
-        12,
-        0,
-        0,
-        0,
-        23,
-        0,
-        0,
-        0,
-        23,
-        0,
-        15,
-        66,
-        64,
-        2,
-        1,
-        1,
-        0,
-        0,
-        0,
-        2,
-        0,
-        1,
-        0,
-        2,
-    ];
+    const ONE: &[u8; 31] =
+        b"\x00\x03\x00\x01\x00\x00\x00\x0c\x00\x00\x00\x17\x00\x00\x00\x17\x00\x0f\x42\x40\x02\x01\x01\x00\x00\x00\x02\x00\x01\x00\x02";
 
     // The number and the place of the refusal of these bytes, or zeros.
     fn refusal(bytes: &[u8]) -> (u8, usize) {
@@ -214,13 +185,13 @@ mod tests {
     fn reads_back() -> Result<(), Fail> {
         let mut sheet = BookSheet::new();
         check(sheet.facts() == 0 && sheet.steps() == 0)?;
-        check(sheet.open(&ONE).is_ok())?;
+        check(sheet.open(ONE).is_ok())?;
         check(sheet.facts() == 3 && sheet.steps() == 1 && sheet.seconds(0) == 1000000)?;
         check(sheet.needs(0, 0) && !sheet.needs(0, 1) && sheet.needs(0, 2))?;
         check(!sheet.adds(0, 0) && sheet.adds(0, 1) && !sheet.adds(0, 2))?;
         check(!sheet.deletes(0, 1) && sheet.deletes(0, 2))?;
         check(!sheet.needs(1, 0) && !sheet.needs(0, 3) && sheet.seconds(1) == 0)?;
-        check(sheet.open(&ONE[0..11]).is_err() && sheet.seconds(0) == 1000000)
+        check(sheet.open(b"\x00\x03").is_err() && sheet.seconds(0) == 1000000)
     }
 
     // One byte of the sheet changed: the byte, its new value, the refusal's number and place.
@@ -242,7 +213,7 @@ mod tests {
     #[test]
     fn refuses_a_changed_byte() -> Result<(), Fail> {
         for (at, byte, number, place) in CHANGED {
-            let mut bytes = ONE;
+            let mut bytes = *ONE;
             if at < bytes.len() {
                 bytes[at] = byte;
             }
@@ -253,10 +224,11 @@ mod tests {
 
     #[test]
     fn refuses_a_wrong_length() -> Result<(), Fail> {
-        check_eq(refusal(&ONE[0..11]), (1, 11))?;
+        let one = *ONE;
+        check_eq(refusal(&one[0..11]), (1, 11))?;
         check_eq(refusal(&[4, 1]), (2, 0))?;
         // an offset is tested before the part that it points to
-        check_eq(refusal(&ONE[0..12]), (1, 12))?;
+        check_eq(refusal(&one[0..12]), (1, 12))?;
         check_eq(refusal(&[0, 3, 0, 1, 0, 0, 0, 13, 0, 0, 0, 23]), (3, 4))?;
         // no steps
         check_eq(refusal(&[0, 3, 0, 0, 0, 0, 0, 12, 0, 0, 0, 12]), (0, 0))?;
@@ -266,61 +238,13 @@ mod tests {
         // a step with empty lists
         check_eq(
             refusal(
-                &[
-                    0,
-                    3,
-                    0,
-                    1,
-                    0,
-                    0,
-                    0,
-                    12,
-                    0,
-                    0,
-                    0,
-                    23,
-                    0,
-                    0,
-                    0,
-                    23,
-                    0,
-                    0,
-                    0,
-                    5,
-                    0,
-                    0,
-                    0,
-                ],
+                b"\x00\x03\x00\x01\x00\x00\x00\x0c\x00\x00\x00\x17\x00\x00\x00\x17\x00\x00\x00\x05\x00\x00\x00",
             ),
             (0, 0),
         )?;
         check_eq(
             refusal(
-                &[
-                    0,
-                    3,
-                    0,
-                    1,
-                    0,
-                    0,
-                    0,
-                    12,
-                    0,
-                    0,
-                    0,
-                    23,
-                    0,
-                    0,
-                    0,
-                    24,
-                    0,
-                    0,
-                    0,
-                    5,
-                    0,
-                    0,
-                    0,
-                ],
+                b"\x00\x03\x00\x01\x00\x00\x00\x0c\x00\x00\x00\x17\x00\x00\x00\x18\x00\x00\x00\x05\x00\x00\x00",
             ),
             (3, 12),
         )

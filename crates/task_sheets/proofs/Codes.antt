@@ -1,14 +1,13 @@
 -- The bytes of a task sheet that passes are the encoding of what they say.
-use Prim.Native.Nat.{ℕ, zero, suc, _+_, _*_, _<_, _≤_}
+use Prim.Native.Nat.{ℕ, zero, suc, _+_, _≤_}
 use mathlib.Core.Path.{_≡_, refl, sym, _∙_, ap}
-use mathlib.Core.List.{List, [], _∷_, _++_}
+use mathlib.Core.List.{List, _++_}
 use native.Mathlib.Omega.{arith}
 use lib.ListN.{length, drop}
 use Rattle.sheets.specs.Fields.{be16, be32, two, four, twos}
-use Rattle.sheets.specs.Lists.{numbersAt}
 use Rattle.sheets.proofs.Stands.{Bytes, Stands, stands-join, stands-two, stands-four, stands-numbers, whole-stands, length-numbersAt}
 use Rattle.task_sheets.specs.Layout.{past, startAt, goalAt, levelAt}
-use Rattle.task_sheets.specs.Content.{Task, listBytes, planBytes, behind, total, encode, listAt, levelsFrom, content}
+use Rattle.task_sheets.specs.Content.{listBytes, planBytes, behind, total, encode, listAt, levelsFrom, content}
 use Rattle.task_sheets.proofs.Sound.{GoodSheet, length-levelsFrom, total-said}
 
 module _ (xs : List ℕ) (b : Bytes xs) where

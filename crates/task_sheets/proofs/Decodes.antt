@@ -1,8 +1,8 @@
 -- The encoding of a lawful task passes, and says that task.
 use Prim.Native.Nat.{ℕ, zero, suc, _+_, _*_, _<_, _≤_}
 use mathlib.Core.Path.{_≡_, refl, sym, _∙_, ap}
-use mathlib.Core.Bool.{true, false, not}
-use mathlib.Core.Logic.{_⊎_, inl, inr}
+use mathlib.Core.Bool.{not}
+use mathlib.Core.Logic.{inl, inr}
 use mathlib.Core.List.{List, [], _∷_, _++_}
 use native.Mathlib.Omega.{arith}
 use lib.Dec.{leb, eqb}
@@ -11,7 +11,7 @@ use Rattle.std.proofs.shelf.Tests.{cases-eq, le-leb, ne-eqb, not-from-false}
 use Rattle.std.specs.Results.{isOk}
 use Rattle.std.specs.shelf.Lists.{All}
 use Rattle.sheets.specs.declared.fault.Refusal.the-variants.{EmptyLevel, WrongTotal, Trailing}
-use Rattle.sheets.specs.Verdicts.{Verdict, must, _then_}
+use Rattle.sheets.specs.Verdicts.{must, _then_}
 use Rattle.sheets.specs.Fields.{be16, be32, two, four, twos, field, limit, offset}
 use Rattle.sheets.specs.Lists.{entries, numbersAt, Ascending}
 use Rattle.sheets.proofs.Verdicts.{Passes, then-pass, must-pass, upTo-pass, field-pass, limit-pass, offset-pass}

@@ -1,12 +1,12 @@
 -- The parts of a task sheet that passes.
 use Prim.Native.Nat.{ℕ, zero, suc, _+_, _-_, _<_, _≤_}
 use mathlib.Core.Path.{_≡_, refl, sym, _∙_, ap}
-use mathlib.Core.Bool.{true, false, _&&_}
+use mathlib.Core.Bool.{true, false}
 use mathlib.Core.Logic.{_⊎_, inl, inr}
 use mathlib.Core.List.{List, []}
 use native.Mathlib.Omega.{arith}
 use lib.Dec.{ltb, leb}
-use lib.ListN.{length, getD}
+use lib.ListN.{length}
 use Rattle.std.specs.shelf.Lists.{between}
 use Rattle.std.proofs.shelf.Tests.{lt-ltb, le-ltb, le-leb, lt-leb, and-from, and-left, and-right}
 use Rattle.std.proofs.shelf.Lists.{getD-past}

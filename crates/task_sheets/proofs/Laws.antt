@@ -1,25 +1,24 @@
 -- Which bytes open, and what they say.
 use Prim.Native.Nat.{ℕ, zero, suc, _+_, _-_, _*_, _<_, _≤_}
 use mathlib.Core.Path.{_≡_, refl, sym, _∙_, ap}
-use mathlib.Core.Bool.{Bool, true, false, _&&_}
+use mathlib.Core.Bool.{true}
 use mathlib.Core.List.{List, [], _∷_}
 use native.Mathlib.Omega.{arith}
-use lib.Dec.{leb, ltb}
+use lib.Dec.{leb}
 use lib.ListN.{length, getD}
 use Rattle.std.specs.Results.{isOk}
 use Rattle.std.specs.shelf.Lists.{between}
 use Rattle.std.specs.declared.result.Result.the-variants.{Err}
 use Rattle.std.proofs.shelf.Tests.{both-ways, and-parts, and-from, leb-true, le-leb}
 use Rattle.sheets.specs.declared.fault.Refused.{Refused}
-use Rattle.sheets.specs.Verdicts.{fine}
 use Rattle.sheets.specs.Fields.{be16}
 use Rattle.sheets.specs.Lists.{numbersAt}
 use Rattle.sheets.proofs.Verdicts.{Passes, passes-fine}
 use Rattle.sheets.proofs.Stands.{Bytes}
 use Rattle.task_sheets.specs.Layout.{past, fits, levelAt, taskSheet}
-use Rattle.task_sheets.specs.Content.{Task, encode, content, listAt, levelsFrom, LawfulTask}
+use Rattle.task_sheets.specs.Content.{encode, content, listAt, levelsFrom}
 use Rattle.task_sheets.specs.Parts.{numbersIn}
-use Rattle.task_sheets.specs.Opened.{SheetOf, SaysOne, SaysNone, OneSheetEach}
+use Rattle.task_sheets.specs.Opened.{SaysOne, SaysNone, OneSheetEach}
 use Rattle.task_sheets.proofs.Sound.{GoodSheet, sheet-good, lawful-content}
 use Rattle.task_sheets.proofs.Codes.{encoded}
 use Rattle.task_sheets.proofs.Decodes.{content-encode, encode-passes}

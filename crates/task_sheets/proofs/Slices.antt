@@ -1,7 +1,7 @@
 -- The numbers in a part of a sheet.
 use Prim.Native.Nat.{ℕ, zero, suc, _+_, _-_, _*_, _/_, _<_, _≤_, min}
 use mathlib.Core.Path.{_≡_, refl, sym, _∙_, ap}
-use mathlib.Core.List.{List, [], _∷_}
+use mathlib.Core.List.{List, _∷_}
 use native.Mathlib.Omega.{arith}
 use lib.ListN.{length, getD}
 use Rattle.std.specs.shelf.Lists.{between}
@@ -11,7 +11,7 @@ use Rattle.sheets.specs.Lists.{numbersAt}
 use Rattle.sheets.proofs.Stands.{length-numbersAt, getD-numbersAt}
 use Rattle.task_sheets.specs.Layout.{past}
 use Rattle.task_sheets.specs.Content.{listAt}
-use Rattle.task_sheets.specs.Parts.{numbersIn, partNumbers, Picked}
+use Rattle.task_sheets.specs.Parts.{numbersIn, partNumbers}
 
 pub length-numbersIn : (bs : List ℕ) → length (numbersIn bs) ≡ length bs / 2
 length-numbersIn bs = length-numbersAt bs 0 (length bs / 2)

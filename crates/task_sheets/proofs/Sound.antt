@@ -1,24 +1,23 @@
 -- What a task sheet that passes is known to be.
-use Prim.Native.Nat.{ℕ, zero, suc, _+_, _*_, _<_, _≤_}
+use Prim.Native.Nat.{ℕ, zero, suc, _+_, _<_, _≤_}
 use mathlib.Core.Path.{_≡_, refl, sym, _∙_, ap}
-use mathlib.Core.Bool.{true, not}
-use mathlib.Core.List.{List, [], _∷_}
+use mathlib.Core.Bool.{not}
+use mathlib.Core.List.{List}
 use native.Mathlib.Omega.{arith}
 use borrow.Author.Needs.{needs}
 use lib.ListN.{length}
 use lib.Dec.{leb, eqb}
 use Rattle.std.proofs.shelf.Tests.{leb-true, eqb-false, not-true}
-use Rattle.std.specs.Results.{isOk}
 use Rattle.std.specs.shelf.Lists.{All}
 use Rattle.sheets.specs.declared.fault.Refusal.the-variants.{EmptyLevel, WrongTotal, Trailing}
-use Rattle.sheets.specs.Verdicts.{Verdict, must, _then_, upTo}
-use Rattle.sheets.specs.Fields.{be16, be32, field, limit, offset}
-use Rattle.sheets.specs.Lists.{entry, entries, numbersAt, Ascending}
-use Rattle.sheets.proofs.Verdicts.{Passes, then-left, then-right, must-true, upTo-each, field-room, limit-kept, offset-is}
+use Rattle.sheets.specs.Verdicts.{Verdict, must, _then_}
+use Rattle.sheets.specs.Fields.{be16, be32, field, offset}
+use Rattle.sheets.specs.Lists.{entry, entries, Ascending}
+use Rattle.sheets.proofs.Verdicts.{Passes, then-left, then-right, must-true, upTo-each, field-room, offset-is}
 use Rattle.sheets.proofs.Stands.{length-numbersAt}
 use Rattle.sheets.proofs.Entries.{entries-room, entries-ascend}
 use Rattle.task_sheets.specs.Layout.{header, past, startAt, goalAt, levelAt, stepsBefore, counted, placed, level, levels, taskSheet}
-use Rattle.task_sheets.specs.Content.{Task, listAt, levelsFrom, total, content, LawfulLevel, LawfulTask}
+use Rattle.task_sheets.specs.Content.{listAt, levelsFrom, total, content, LawfulLevel, LawfulTask}
 use Rattle.task_sheets.proofs.Turns.{levelIn}
 
 -- what is known of a list that begins at a byte

@@ -1,9 +1,9 @@
 ghost use mathlib.Core.Path.{_≡_};
-ghost use Prim.Native.Nat.{ℕ, _+_, _*_, _<_, _≤_};
+ghost use Prim.Native.Nat.{_+_, _*_, _<_, _≤_};
 ghost use lib.ListN.{length};
 ghost use Rattle.sheets.specs.Fields.{be16};
 ghost use Rattle.sheets.specs.Verdicts.{Gives};
-ghost use Rattle.task_sheets.specs.Layout.{header, past, startAt, goalAt, levelAt, stepsBefore, counted, placed, level, levels, taskSheet};
+ghost use Rattle.task_sheets.specs.Layout.{header, past, levelAt, stepsBefore, placed, level, levels, taskSheet};
 use sheets::Refusal;
 use sheets::Refused;
 use sheets::fields::begins_at;
@@ -90,16 +90,16 @@ fn check_level(bytes: &[u8], bound: u16, most: u16, from: Reached) -> Result<Rea
 }
 
 // What is reached behind all levels, which are to begin at `at`, if they are right.
-fn check_levels(bytes: &[u8], header: Header, at: usize) -> Result<Reached, Refused>
+fn check_levels(bytes: &[u8], counts: Header, at: usize) -> Result<Reached, Refused>
     requires { ⌜ at ≤ length (now bytes) ⌝ }
     requires { ⌜ at ≡ levelAt (now bytes) 0 ⌝ }
-    requires { ⌜ header .steps ≡ be16 (now bytes) 2 ⌝ }
-    requires { ⌜ header .total ≡ be16 (now bytes) 6 ⌝ }
-    ensures { λ r. ⌜ Gives r (levels (now (bytes .entry)) (header .levels)) (λ q. (q .at ≡ levelAt (now (bytes .entry)) (header .levels)) × (q .at ≤ length (now (bytes .entry))) × (q .steps ≡ stepsBefore (now (bytes .entry)) (header .levels))) ⌝ }
+    requires { ⌜ counts .steps ≡ be16 (now bytes) 2 ⌝ }
+    requires { ⌜ counts .total ≡ be16 (now bytes) 6 ⌝ }
+    ensures { λ r. ⌜ Gives r (levels (now (bytes .entry)) (counts .levels)) (λ q. (q .at ≡ levelAt (now (bytes .entry)) (counts .levels)) × (q .at ≤ length (now (bytes .entry))) × (q .steps ≡ stepsBefore (now (bytes .entry)) (counts .levels))) ⌝ }
 {
     let mut reached = Reached { at, steps: 0 };
-    for _i in 0..header.levels {
-        reached = check_level(bytes, header.steps, header.total, reached)?;
+    for _i in 0..counts.levels {
+        reached = check_level(bytes, counts.steps, counts.total, reached)?;
     }
     Ok(reached)
 }

@@ -1,5 +1,4 @@
 use native.Mathlib.Omega.{arith}
-use mathlib.Core.Path.{sym, _∙_}
 use Rattle.task_sheets.proofs.Slices.{length-numbersIn, picked}
 use Rattle.task_sheets.proofs.numbers.Numbers.get.Needs as need
 

@@ -1,4 +1,4 @@
-use Prim.Native.Nat.{_+_, _-_, _<_, _≤_}
+use Prim.Native.Nat.{_-_, _<_, _≤_}
 use mathlib.Core.Path.{_≡_, refl, sym, ap, subst, _∙_}
 use mathlib.Core.Logic.{_⊎_, inl, inr}
 use native.Mathlib.Omega.{arith}
@@ -6,7 +6,6 @@ use lib.ListN.{length}
 use Rattle.std.specs.shelf.Lists.{between}
 use Rattle.sheets.specs.Fields.{be16}
 use Rattle.task_sheets.specs.Layout.{past, startAt, goalAt, levelAt}
-use Rattle.task_sheets.specs.Content.{listAt}
 use Rattle.task_sheets.proofs.Sound.{sheet-good, length-levelsFrom}
 use Rattle.task_sheets.proofs.Items.{part-said, goal-lies, level-end, level-list, no-level, such-level, level-lies}
 use Rattle.task_sheets.proofs.task_sheet.TaskSheet.item.Needs as need
