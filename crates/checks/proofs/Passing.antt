@@ -1,5 +1,5 @@
 -- The levels of a plan, passed one after the other.
-use mathlib.Core.Path.{_≡_, refl, sym, ap, ap₂, _∙_, subst, fun-ext}
+use mathlib.Core.Path.{_≡_, refl, sym, ap, _∙_, subst, fun-ext}
 use mathlib.Core.Bool.{Bool, true, false, not, _&&_}
 use mathlib.Core.List.{List, [], _∷_, _++_}
 use mathlib.Core.Logic.{_⊎_, inl, inr}
@@ -12,7 +12,6 @@ use Rattle.std.proofs.shelf.Lists.{take-more, take-all, drop-more, length-drop,
 use Rattle.std.proofs.shelf.Elements.{all-from-getD, all-getD}
 use Rattle.std.proofs.shelf.Sorted.{length-shuffled}
 use Rattle.std.proofs.shelf.Tests.{cases-lt}
-use Rattle.std.proofs.shelf.Ways.{tells}
 use Rattle.facts.specs.Sets.{holds, First}
 use Rattle.books.specs.Book.{Model, Facts}
 use Rattle.books.specs.Gathered.{Gathers}
@@ -37,7 +36,7 @@ use Rattle.checks.specs.declared.arrangement.Arrangement.{Arrangement}
 use Rattle.checks.specs.Arrangements.{Arranges}
 use Rattle.checks.specs.Rows.{marked}
 use Rattle.checks.specs.Tables.{blank, placesIn, Exact}
-use Rattle.checks.specs.Checked.{Matches, PassTo, factsAfter, Checked, Misses, EndsIn}
+use Rattle.checks.specs.Checked.{Matches, PassTo, factsAfter, Checked, EndsIn, Reached}
 use Rattle.checks.specs.Drafts.{placesOf, Filled, Drafted}
 use Rattle.checks.specs.Levels.{Grown, LevelPassed, LacksNeed, LevelRefused}
 
@@ -204,22 +203,19 @@ module _ (m : Model) (t : Task) (words : List ℕ) (d : Draft) (h : Drafted m t 
   pub all-ends : EndsIn m t words
   all-ends q = h .facts q ∙ ap (λ plan. finally m (listed (t .start)) plan q) whole
 
-  -- the goal as words, and the end as words
-  module _ (goal : List ℕ) (e : (q : ℕ) → holds goal q ≡ listed (t .goal) q) where
-    lacks : (q : ℕ) → (holds goal q && not (holds words q)) ≡ (listed (t .goal) q && not (finally m (listed (t .start)) (t .levels) q))
-    lacks q = ap₂ (λ a b. a && not b) (e q) (all-ends q)
+  -- the facts at the end, and what the goal has of them
+  same-end : holds words ≡ finally m (listed (t .start)) (t .levels)
+  same-end = fun-ext all-ends
 
-    pub goal-missed : (p : ℕ) → First (λ q. holds goal q && not (holds words q)) p → Misses m t p
-    goal-missed p f = record {
-      passed = all-recognized;
-      missing = record { here = sym (lacks p) ∙ f .here; before = λ q l. sym (lacks q) ∙ f .before q l };
-    }
+  pub goal-missed : Matches m t → (f : PlanFault) → Reached (t .goal) (holds words) (Err f) → Checked m t (Err f)
+  goal-missed ok (Sheet f) r = r
+  goal-missed ok Mismatch r = absurd r
+  goal-missed ok (NeedMissing n a p) r = absurd r
+  goal-missed ok (NoOrder n) r = absurd r
+  goal-missed ok (GoalMissing p) r = (ok, record { passed = all-recognized; missing = subst (λ (E : Facts). First (λ q. listed (t .goal) q && not (E q)) p) same-end r })
 
-    pub goal-reached : ((q : ℕ) → (holds goal q && not (holds words q)) ≡ false) → Accepted m (listed (t .start)) (listed (t .goal)) (t .levels)
-    goal-reached n = record {
-      recognized = all-recognized;
-      reached = λ p g. (let w = sym (lacks p) ∙ n p in grind (arith, tells));
-    }
+  pub goal-reached : ((p : ℕ) → listed (t .goal) p ≡ true → holds words p ≡ true) → Accepted m (listed (t .start)) (listed (t .goal)) (t .levels)
+  goal-reached r = record { recognized = all-recognized; reached = λ p g. sym (all-ends p) ∙ r p g }
 
 -- an arrangement with the places of the draft of a plan
 pub arranges : (m : Model) (t : Task) (d : Draft) (a : Arrangement) → a .count ≡ d .count → a .places ≡ d .places → Arranged m (t .levels) (placesOf d)

@@ -16,6 +16,15 @@ use Rattle.task_sheets.specs.Content.{Task}
 use Rattle.checks.specs.declared.fault.PlanFault.{PlanFault}
 use Rattle.checks.specs.declared.fault.PlanFault.the-variants.{Sheet, Mismatch, NeedMissing, NoOrder, GoalMissing}
 
+-- whether the facts E include the goal's, or which is the smallest that is missing
+abbrev pub Reached : List ℕ → Facts → Result (Unit {0}) PlanFault → Type 0
+Reached goal E (Ok u) = (p : ℕ) → listed goal p ≡ true → E p ≡ true
+Reached goal E (Err (Sheet f)) = ⊥
+Reached goal E (Err Mismatch) = ⊥
+Reached goal E (Err (NeedMissing n a p)) = ⊥
+Reached goal E (Err (NoOrder n)) = ⊥
+Reached goal E (Err (GoalMissing p)) = First (λ q. listed goal q && not (E q)) p
+
 module _ (m : Model) (t : Task) where
   -- the book and the task have the same numbers of facts and of steps
   pub record Matches : Type 0 where

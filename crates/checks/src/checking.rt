@@ -5,9 +5,10 @@ ghost use lib.ListN.{length};
 ghost use Rattle.std.specs.Results.{Cases};
 ghost use Rattle.std.specs.Vec.{made};
 ghost use Rattle.std.specs.declared.result.Result.the-variants.{Ok, Err};
+ghost use Rattle.facts.specs.Sets.{holds};
 ghost use Rattle.task_sheets.specs.Opened.{taskOf};
 ghost use Rattle.checks.specs.Arrangements.{Arranges};
-ghost use Rattle.checks.specs.Checked.{Matches, Checked, EndsIn, OneAnswer, bare};
+ghost use Rattle.checks.specs.Checked.{Matches, Checked, EndsIn, OneAnswer, Reached, bare};
 ghost use Rattle.checks.specs.Drafts.{Drafted};
 use crate::arrangement::Arrangement;
 use crate::draft::Draft;
@@ -41,6 +42,16 @@ fn pass_levels<B: Book>(
     Ok(facts)
 }
 
+// Whether the facts at the end include the goal's; refused at the smallest that is missing.
+fn reach_goal(task: &TaskSheet, end: &FactSet) -> Result<(), PlanFault>
+    ensures { λ r. ⌜ Reached (taskOf (now (task .entry)) .goal) (holds (now (end .entry) .words)) r ⌝ }
+{
+    match part_set(task, Part::Goal).first_outside(end) {
+        Some(fact) => Err(PlanFault::GoalMissing { fact }),
+        None => Ok(()),
+    }
+}
+
 // Judges the plan, level by level and then by its goal; on acceptance the draft holds its places, and the facts that it
 // ends in are answered.
 fn judge<B: Book>(book: &B, task: &TaskSheet, draft: &mut Draft) -> Result<[u64; 16], PlanFault>
@@ -52,10 +63,8 @@ fn judge<B: Book>(book: &B, task: &TaskSheet, draft: &mut Draft) -> Result<[u64;
         return Err(PlanFault::Mismatch);
     }
     let end = pass_levels(book, task, draft)?;
-    match part_set(task, Part::Goal).first_outside(&FactSet::of(end)) {
-        Some(fact) => Err(PlanFault::GoalMissing { fact }),
-        None => Ok(end),
-    }
+    reach_goal(task, &FactSet::of(end))?;
+    Ok(end)
 }
 
 // Checks the plan. Accepted, the facts that it ends in are written; refused, the first refusal is named and nothing changes.
@@ -81,9 +90,9 @@ pub fn arrange<B: Book>(
     ensures arrangement { λ r. ⌜ Cases r (λ _. Arranges (B·Book .model (now (book .entry))) (taskOf (now (task .entry))) (now (into .exit))) (λ _. now (into .exit) ≡ now (into .entry)) ⌝ }
 {
     let mut draft = Draft::new();
-    let end = judge(book, task, &mut draft)?;
+    let words = judge(book, task, &mut draft)?;
     *into = Arrangement::of(&draft);
-    Ok(end)
+    Ok(words)
 }
 
 // A plan has one answer: no other one fits the definition.

@@ -9,6 +9,7 @@ use checks::check_bytes;
 use checks::fault::PlanFaultDebug;
 use checks::fault::PlanFaultPartialEq;
 use facts::FactSet;
+use facts::NumberSetPartialEq;
 use sheets::Refusal;
 use sheets::Sheet;
 use sheets::SheetFault;

@@ -1,0 +1,4 @@
+pub mod Upward
+pub mod Greatests
+pub mod Tables
+pub mod Layers

@@ -1,0 +1,4 @@
+pub mod Scale
+pub mod Measures
+pub mod Timetable
+pub mod Strata
