@@ -1,7 +1,14 @@
-// Opens the book and the task of the folder it runs in, says what they are, and checks the plan.
+// Opens the book and the task of the folder it runs in, checks the plan, times it, and works it off on a bit board.
+use boards::BitBoard;
+use boards::BitBoardBoard;
 use book_sheets::BookSheet;
 use book_sheets::BookSheetBook;
 use books::Book;
+use cards::Card;
+use cards::RunFaultDisplay;
+use cards::begin;
+use cards::finish;
+use cards::issue;
 use checks::PlanFaultDisplay;
 use checks::check;
 use facts::FactSet;
@@ -12,6 +19,11 @@ use std::io;
 use std::io::ErrorKind;
 use std::io::Read;
 use task_sheets::TaskSheet;
+use timetables::Seconds;
+use timetables::SecondsMeasure;
+use timetables::StepCount;
+use timetables::strata;
+use timetables::timetable;
 
 // One byte more than the longest sheet that is read.
 const MOST: u64 = 65537;
@@ -71,6 +83,77 @@ fn print_check(rt: &LibcRuntime, book: &BookSheet, task: &TaskSheet) -> io::Resu
     }
 }
 
+// The seconds of each place's step, by place; zero past the last place.
+fn weights(book: &BookSheet, card: &Card) -> [Seconds; 256] {
+    let mut weights = [Seconds { count: 0 }; 256];
+    for u in 0..256 {
+        if let Ok((step, _, _)) = card.look(u) {
+            weights[u] = Seconds {
+                count: book.seconds(step),
+            };
+        }
+    }
+    weights
+}
+
+// Each place with its step, its level, its stratum and when it begins at the earliest.
+fn print_places(rt: &LibcRuntime, book: &BookSheet, card: &Card) -> io::Result<()> {
+    let mut stratum = [StepCount { count: 0 }; 256];
+    let mut begins = [Seconds { count: 0 }; 256];
+    let heights = strata(card, &mut stratum);
+    let times = timetable(card, &weights(book, card), &mut begins);
+    if let (Ok(height), Ok(end)) = (heights, times) {
+        let height = height.count;
+        let end = end.count;
+        println!(rt, "strata {height} seconds {end}")?;
+    }
+    for u in 0..256 {
+        if let Ok((step, level, _)) = card.look(u) {
+            let stratum = stratum[u].count;
+            let at = begins[u].count;
+            println!(
+                rt,
+                "{u} step {step} level {level} stratum {stratum} at {at}"
+            )?;
+        }
+    }
+    Ok(())
+}
+
+// Begins and finishes every place, from the lowest on, and prints each answer.
+fn print_run(
+    rt: &LibcRuntime,
+    book: &BookSheet,
+    board: &mut BitBoard,
+    card: &mut Card,
+) -> io::Result<()> {
+    for u in 0..card.count() {
+        match begin(book, board, card, u) {
+            Ok(()) => println!(rt, "begin {u}: granted")?,
+            Err(fault) => println!(rt, "begin {u}: {fault}")?,
+        }
+        match finish(book, board, card, u) {
+            Ok(()) => println!(rt, "finish {u}: granted")?,
+            Err(fault) => println!(rt, "finish {u}: {fault}")?,
+        }
+    }
+    Ok(())
+}
+
+// Issues the task, times its places and works them off.
+fn print_issue(rt: &LibcRuntime, book: &BookSheet, task: &TaskSheet) -> io::Result<()> {
+    let mut board = BitBoard::new();
+    let mut card = Card::new();
+    match issue(book, &mut board, &mut card, task) {
+        Ok(()) => {
+            println!(rt, "issue: granted")?;
+            print_places(rt, book, &card)?;
+            print_run(rt, book, &mut board, &mut card)
+        }
+        Err(fault) => println!(rt, "issue: {fault}"),
+    }
+}
+
 fn run(rt: &LibcRuntime) -> Result<(), AnyError> {
     let book_bytes = read_sheet(rt, "book.bin")?;
     let mut book = BookSheet::new();
@@ -87,6 +170,7 @@ fn run(rt: &LibcRuntime) -> Result<(), AnyError> {
     }
     print_task(rt, &task)?;
     print_check(rt, &book, &task)?;
+    print_issue(rt, &book, &task)?;
     Ok(())
 }
 

@@ -5,3 +5,4 @@ pub mod Answers
 pub mod Cards
 pub mod Runs
 pub mod Issues
+pub mod FaultText
