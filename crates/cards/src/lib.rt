@@ -21,6 +21,3 @@ pub use run::Run;
 pub use state::Attempt;
 pub use state::Event;
 pub use state::State;
-
-#[cfg(test)]
-mod tests;

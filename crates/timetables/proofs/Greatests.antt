@@ -7,7 +7,7 @@ use native.Mathlib.Omega.{arith}
 use borrow.Author.Count.{below-more}
 use Rattle.std.proofs.shelf.Tests.{both-ways, cond-both}
 use Rattle.timetables.specs.Scale.{Scale, Laws}
-use Rattle.timetables.specs.Timetable.{Greatest}
+use Rattle.timetables.specs.Timetable.{greaterOf, Greatest}
 
 module _ {M : Type 0} {s : Scale M} (laws : Laws s) where
   reflexive : (x : M) → s .within x x ≡ true
@@ -40,16 +40,16 @@ module _ {M : Type 0} {s : Scale M} (laws : Laws s) where
       attained = ⊎-elim (λ a. inl (a .0, omega (arith, a .1), a .2, a .3)) (λ a. absurd (both-ways (s .within x (value n)) down (ap (λ y. s .within y (value n)) (a .1) ∙ laws .least (value n)))) (g .attained);
     }
 
-    -- one turn of a loop that keeps the greater of two values
-    pub greatest-more : (n : ℕ) (x y z : M) → picked n ≡ true → y ≡ value n → z ≡ cond (s .within x y) y x → Greatest s picked value n x → Greatest s picked value (n + 1) z
-    greatest-more n x y z here is won g =
-        let e : z ≡ cond (s .within x (value n)) (value n) x = won ∙ ap (λ t. cond (s .within x t) t x) is in
-        subst (λ t. Greatest s picked value (n + 1) t) (sym e)
-        (cond-both (s .within x (value n)) (value n) x (λ t. Greatest s picked value (n + 1) t) (greatest-taken n x here g) (greatest-stays n x here g))
+    -- one more value, by the greater of the two
+    pub greatest-more : (n : ℕ) (x : M) → picked n ≡ true → Greatest s picked value n x → Greatest s picked value (n + 1) (greaterOf s x (value n))
+    greatest-more n x here g =
+        cond-both (s .within x (value n)) (value n) x (λ t. Greatest s picked value (n + 1) t) (greatest-taken n x here g) (greatest-stays n x here g)
 
-    -- one turn that leaves the value as it is
-    pub greatest-same : (n : ℕ) (x z : M) → z ≡ x → picked n ≡ false → Greatest s picked value n x → Greatest s picked value (n + 1) z
-    greatest-same n x z is left g = subst (λ t. Greatest s picked value (n + 1) t) (sym is) (greatest-skip n x left g)
+    -- one turn of a loop that takes a value only where it is picked
+    pub greatest-turn : (n : ℕ) (x z : M) → z ≡ cond (picked n) (greaterOf s x (value n)) x → Greatest s picked value n x → Greatest s picked value (n + 1) z
+    greatest-turn n x z is g =
+        subst (λ t. Greatest s picked value (n + 1) t) (sym is)
+        (cond-both (picked n) (greaterOf s x (value n)) x (λ t. Greatest s picked value (n + 1) t) (λ h. greatest-more n x h g) (λ h. greatest-skip n x h g))
 
     -- what bounds each value bounds the greatest
     pub greatest-within : (n : ℕ) (x y : M) → Greatest s picked value n x → ((u : ℕ) → u < n → picked u ≡ true → s .within (value u) y ≡ true) → s .within x y ≡ true

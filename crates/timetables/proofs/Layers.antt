@@ -11,9 +11,9 @@ use Rattle.std.specs.declared.result.Result.{Result}
 use Rattle.std.specs.declared.result.Result.the-variants.{Ok, Err}
 use Rattle.sheets.specs.declared.writing.TooShort.{TooShort}
 use Rattle.timetables.specs.Measures.{stepScale}
-use Rattle.timetables.specs.Timetable.{sum, by, Timetable, Timetabled}
+use Rattle.timetables.specs.Timetable.{sum, byPlace, Timetable, Timetabled}
 use Rattle.timetables.specs.Strata.{Strata, ones, Stratified}
-use Rattle.timetables.specs.declared.measures.StepCount.{StepCount}
+use Rattle.timetables.specs.declared.step_count.StepCount.{StepCount}
 
 module _ (size : ℕ) (precedes : ℕ → ℕ → Bool) (upward : (u v : ℕ) → precedes u v ≡ true → (u < v) × (v < size)) (small : size ≤ 256)
     (weight begin : ℕ → StepCount) (end : StepCount) (one : (v : ℕ) → v < size → weight v .count ≡ 1) (t : Timetable stepScale size precedes weight begin end) where
@@ -69,11 +69,11 @@ module _ (size : ℕ) (precedes : ℕ → ℕ → Bool) (upward : (u v : ℕ) �
   strata-made = record { climbs = climbs; low = low; below = below; each = each; few = few }
 
 -- the weights are ones
-one-each : (v : ℕ) → v < 256 → by stepScale ones v .count ≡ 1
+one-each : (v : ℕ) → v < 256 → byPlace stepScale ones v .count ≡ 1
 one-each v h = ap (λ x. x .count) (getD-replicate 256 v (record { count = 1 }) (stepScale .zero) h)
 
 pub stratified : (size : ℕ) (precedes : ℕ → ℕ → Bool) → ((u v : ℕ) → precedes u v ≡ true → (u < v) × (v < size)) → size ≤ 256 → (before after : List StepCount) (r : Result StepCount TooShort) → Timetabled stepScale size precedes ones before after r → Stratified size precedes before after r
 stratified size precedes upward small before after (Ok end) t =
-    (t, strata-made size precedes upward small (by stepScale ones) (by stepScale after) end (λ v h. one-each v (omega arith)) (t .table))
+    (t, strata-made size precedes upward small (byPlace stepScale ones) (byPlace stepScale after) end (λ v h. one-each v (omega arith)) (t .table))
 stratified size precedes upward small before after (Err fault) t =
     (t .needed, ⊎-elim (λ h. absurd (omega (arith, h, length-replicate {A = StepCount} 256 (record { count = 1 })))) (λ h. h) (t .short), t .same)

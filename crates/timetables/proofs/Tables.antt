@@ -7,22 +7,17 @@ use Prim.Native.Nat.{ℕ, zero, suc, _+_, _<_, _≤_}
 use native.Mathlib.Omega.{arith}
 use lib.ListN.{length, getD, set}
 use borrow.Author.Count.{below-more}
-use Rattle.std.proofs.shelf.Lists.{getD-read, getD-set-same, getD-set-other}
+use Rattle.std.proofs.shelf.Lists.{getD-set-same, getD-set-other}
 use Rattle.std.proofs.shelf.Tests.{cases-lt}
 use Rattle.timetables.specs.Scale.{Scale, Laws}
-use Rattle.timetables.specs.Timetable.{Greatest, sum, Keeps, Timetable, OnlyOne, by, Written}
+use Rattle.timetables.specs.Timetable.{greaterOf, Greatest, sum, Keeps, Timetable, OnlyOne, byPlace, Written}
 use Rattle.timetables.proofs.Greatests.{greatest-none, greatest-more, greatest-within, greatest-over, greatest-wider}
-
--- the sum of a begin and a weight that were read
-pub sum-read : {M : Type 0} (s : Scale M) (weights begins : List M) (u : ℕ) (b w y : M) → u < length begins → u < length weights → b ≡ getD begins u b → w ≡ getD weights u w → y ≡ s .plus b w → y ≡ sum s (by s weights) (by s begins) u
-sum-read s weights begins u b w y hb hw rb rw' e =
-    e ∙ ap (λ t. s .plus t w) (getD-read begins u b hb rb (s .zero)) ∙ ap (λ t. s .plus (by s begins u) t) (getD-read weights u w hw rw' (s .zero))
 
 -- the first n places have their begins, the other entries stand as they did, and end is the greatest sum so far
 pub record SoFar {M : Type 0} (s : Scale M) (precedes : ℕ → ℕ → Bool) (weights before begins : List M) (n : ℕ) (end : M) : Type 0 where
-  pub begun : (v : ℕ) → v < n → Greatest s (λ u. precedes u v) (sum s (by s weights) (by s begins)) v (by s begins v)
+  pub begun : (v : ℕ) → v < n → Greatest s (λ u. precedes u v) (sum s (byPlace s weights) (byPlace s begins)) v (byPlace s begins v)
   pub rest : (k : ℕ) (d : M) → n ≤ k → getD begins k d ≡ getD before k d
-  pub ended : Greatest s (λ _. true) (sum s (by s weights) (by s begins)) n end
+  pub ended : Greatest s (λ _. true) (sum s (byPlace s weights) (byPlace s begins)) n end
 
 module _ {M : Type 0} {s : Scale M} (laws : Laws s) (precedes : ℕ → ℕ → Bool) (weights : List M) where
   pub so-far-none : (before : List M) → SoFar s precedes weights before before 0 (s .zero)
@@ -33,49 +28,49 @@ module _ {M : Type 0} {s : Scale M} (laws : Laws s) (precedes : ℕ → ℕ → 
   }
 
   -- a sum below i does not see what is written at i
-  sum-below : (begins : List M) (i u : ℕ) (x : M) → u < i → sum s (by s weights) (by s begins) u ≡ sum s (by s weights) (by s (set begins i x)) u
+  sum-below : (begins : List M) (i u : ℕ) (x : M) → u < i → sum s (byPlace s weights) (byPlace s begins) u ≡ sum s (byPlace s weights) (byPlace s (set begins i x)) u
   sum-below begins i u x h =
       let ne : u ≢ i = omega arith in
-      ap (λ t. s .plus t (by s weights u)) (sym (getD-set-other begins i u x (s .zero) ne))
+      ap (λ t. s .plus t (byPlace s weights u)) (sym (getD-set-other begins i u x (s .zero) ne))
 
-  pub so-far-more : (before begins : List M) (i : ℕ) (end x w y next : M) → i < length begins → i < length weights → w ≡ getD weights i w → y ≡ s .plus x w → next ≡ cond (s .within end y) y end → Greatest s (λ u. precedes u i) (sum s (by s weights) (by s begins)) i x → SoFar s precedes weights before begins i end → SoFar s precedes weights before (set begins i x) (i + 1) next
-  so-far-more before begins i end x w y next hb hw read added won best f =
+  pub so-far-more : (before begins : List M) (i : ℕ) (end x y next : M) → i < length begins → y ≡ sum s (byPlace s weights) (byPlace s (set begins i x)) i → next ≡ greaterOf s end y → Greatest s (λ u. precedes u i) (sum s (byPlace s weights) (byPlace s begins)) i x → SoFar s precedes weights before begins i end → SoFar s precedes weights before (set begins i x) (i + 1) next
+  so-far-more before begins i end x y next hb last won best f =
       let begins′ = set begins i x in
-      let here : by s begins′ i ≡ x = getD-set-same begins i x (s .zero) hb in
-      let last : y ≡ sum s (by s weights) (by s begins′) i = added ∙ ap (s .plus x) (getD-read weights i w hw read (s .zero)) ∙ ap (λ t. s .plus t (by s weights i)) (sym here) in
+      let here : byPlace s begins′ i ≡ x = getD-set-same begins i x (s .zero) hb in
       record {
-        begun = below-more (λ v. Greatest s (λ u. precedes u v) (sum s (by s weights) (by s begins′)) v (by s begins′ v)) i
+        begun = below-more (λ v. Greatest s (λ u. precedes u v) (sum s (byPlace s weights) (byPlace s begins′)) v (byPlace s begins′ v)) i
             (λ v h. let ne : v ≢ i = omega arith in
-            subst (λ t. Greatest s (λ u. precedes u v) (sum s (by s weights) (by s begins′)) v t) (sym (getD-set-other begins i v x (s .zero) ne))
+            subst (λ t. Greatest s (λ u. precedes u v) (sum s (byPlace s weights) (byPlace s begins′)) v t) (sym (getD-set-other begins i v x (s .zero) ne))
             (greatest-over s (λ u. precedes u v) _ _ v _ (λ u k. sum-below begins i u x (omega arith)) (f .begun v h)))
-            (subst (λ t. Greatest s (λ u. precedes u i) (sum s (by s weights) (by s begins′)) i t) (sym here)
+            (subst (λ t. Greatest s (λ u. precedes u i) (sum s (byPlace s weights) (byPlace s begins′)) i t) (sym here)
             (greatest-over s (λ u. precedes u i) _ _ i _ (λ u k. sum-below begins i u x k) best));
         rest = λ k d h. let ne : k ≢ i = omega arith in getD-set-other begins i k x d ne ∙ f .rest k d (omega arith);
-        ended = greatest-more laws (λ _. true) _ i end y next refl last won (greatest-over s (λ _. true) _ _ i end (λ u k. sum-below begins i u x k) (f .ended));
+        ended = subst (λ t. Greatest s (λ _. true) (sum s (byPlace s weights) (byPlace s begins′)) (i + 1) t) (sym (won ∙ ap (greaterOf s end) last))
+            (greatest-more laws (λ _. true) (sum s (byPlace s weights) (byPlace s begins′)) i end refl (greatest-over s (λ _. true) _ _ i end (λ u k. sum-below begins i u x k) (f .ended)));
       }
 
   module _ (size : ℕ) (upward : (u v : ℕ) → precedes u v ≡ true → (u < v) × (v < size)) (before begins : List M) (end : M) (f : SoFar s precedes weights before begins size end) where
-    keeps-here : Keeps s precedes (by s weights) (by s begins)
+    keeps-here : Keeps s precedes (byPlace s weights) (byPlace s begins)
     keeps-here u v h = f .begun v (upward u v h .1) .bound u (upward u v h .0) h
 
-    module _ (others : ℕ → M) (kept : Keeps s precedes (by s weights) others) where
+    module _ (others : ℕ → M) (kept : Keeps s precedes (byPlace s weights) others) where
       -- a place begins no later than in others, if the lower places do
-      least-at : (v : ℕ) → v < size → ((u : ℕ) → u < v → s .within (by s begins u) (others u) ≡ true) → s .within (by s begins v) (others v) ≡ true
+      least-at : (v : ℕ) → v < size → ((u : ℕ) → u < v → s .within (byPlace s begins u) (others u) ≡ true) → s .within (byPlace s begins v) (others v) ≡ true
       least-at v h below =
           greatest-within laws (λ u. precedes u v) _ v _ (others v) (f .begun v h)
-          (λ u k t. laws .transitive _ _ _ (laws .keeps _ _ (by s weights u) (below u k)) (kept u v t))
+          (λ u k t. laws .transitive _ _ _ (laws .keeps _ _ (byPlace s weights u) (below u k)) (kept u v t))
 
-      least-below : (n : ℕ) → n ≤ size → (v : ℕ) → v < n → s .within (by s begins v) (others v) ≡ true
+      least-below : (n : ℕ) → n ≤ size → (v : ℕ) → v < n → s .within (byPlace s begins v) (others v) ≡ true
       least-below zero le v h = absurd (omega arith)
       least-below (suc n) le v h =
           ⊎-elim (λ lt. least-below n (omega arith) v lt) (λ ge. least-at v (omega arith) (λ u k. least-below n (omega arith) u (omega arith))) (cases-lt v n)
 
-      soonest-here : (last : M) → ((v : ℕ) → v < size → s .within (sum s (by s weights) others v) last ≡ true) → s .within end last ≡ true
+      soonest-here : (last : M) → ((v : ℕ) → v < size → s .within (sum s (byPlace s weights) others v) last ≡ true) → s .within end last ≡ true
       soonest-here last done =
           greatest-within laws (λ _. true) _ size end last (f .ended)
-          (λ u h _. laws .transitive _ _ _ (laws .keeps _ _ (by s weights u) (least-below size (omega arith) u h)) (done u h))
+          (λ u h _. laws .transitive _ _ _ (laws .keeps _ _ (byPlace s weights u) (least-below size (omega arith) u h)) (done u h))
 
-    table-made : Timetable s size precedes (by s weights) (by s begins) end
+    table-made : Timetable s size precedes (byPlace s weights) (byPlace s begins) end
     table-made = record {
       keeps = keeps-here;
       least = λ others kept v h. least-below others kept size (omega arith) v h;

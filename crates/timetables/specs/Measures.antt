@@ -2,8 +2,8 @@
 use Prim.Native.Nat.{ℕ, _+_, _-_, _^_, min}
 use lib.Dec.{leb}
 use Rattle.timetables.specs.Scale.{Scale}
-use Rattle.timetables.specs.declared.measures.StepCount.{StepCount}
-use Rattle.timetables.specs.declared.measures.Seconds.{Seconds}
+use Rattle.timetables.specs.declared.step_count.StepCount.{StepCount}
+use Rattle.timetables.specs.declared.seconds.Seconds.{Seconds}
 
 -- a sum stops at 65,535
 abbrev pub stepScale : Scale StepCount

@@ -9,8 +9,8 @@ use Rattle.std.specs.declared.result.Result.{Result}
 use Rattle.std.specs.declared.result.Result.the-variants.{Ok, Err}
 use Rattle.sheets.specs.declared.writing.TooShort.{TooShort}
 use Rattle.timetables.specs.Measures.{stepScale}
-use Rattle.timetables.specs.Timetable.{by, Written}
-use Rattle.timetables.specs.declared.measures.StepCount.{StepCount}
+use Rattle.timetables.specs.Timetable.{byPlace, Written}
+use Rattle.timetables.specs.declared.step_count.StepCount.{StepCount}
 
 -- the stratum of each place, and the number of strata
 pub record Strata (size : ℕ) (precedes : ℕ → ℕ → Bool) (stratum : ℕ → ℕ) (count : ℕ) : Type 0 where
@@ -25,7 +25,7 @@ pub record Strata (size : ℕ) (precedes : ℕ → ℕ → Bool) (stratum : ℕ 
 
 -- the stratum of each place by a list of begins
 abbrev pub stratumIn : List StepCount → ℕ → ℕ
-stratumIn begins v = by stepScale begins v .count
+stratumIn begins v = byPlace stepScale begins v .count
 
 -- weight 1 for every place
 abbrev pub ones : List StepCount

@@ -1,6 +1,6 @@
 -- Timetables of a number of places, some of which precede others, in any measure.
 use mathlib.Core.Path.{_≡_}
-use mathlib.Core.Bool.{Bool, true}
+use mathlib.Core.Bool.{Bool, true, cond}
 use mathlib.Core.List.{List}
 use mathlib.Core.Logic.{_⊎_}
 use Prim.Native.Nat.{ℕ, _<_, _≤_}
@@ -11,6 +11,10 @@ use Rattle.sheets.specs.declared.writing.TooShort.{TooShort}
 use Rattle.timetables.specs.Scale.{Scale}
 
 module _ {M : Type 0} (s : Scale M) where
+  -- the greater of two values
+  abbrev pub greaterOf : M → M → M
+  greaterOf x y = cond (s .within x y) y x
+
   -- x is the greatest of the values of the picked numbers below n, or zero where none is picked
   pub record Greatest (picked : ℕ → Bool) (value : ℕ → M) (n : ℕ) (x : M) : Type 0 where
     pub bound : (u : ℕ) → u < n → picked u ≡ true → s .within (value u) x ≡ true
@@ -33,8 +37,8 @@ module _ {M : Type 0} (s : Scale M) where
     pub begun : (v : ℕ) → v < size → Greatest (λ u. precedes u v) (sum weight begin) size (begin v)
     -- the end is the greatest sum of a place's begin and weight, zero for no places
     pub ended : Greatest (λ _. true) (sum weight begin) size end
-    -- whichever begins keep the precedences, what every place has ended by is the same end or a greater one
-    pub soonest : (others : ℕ → M) → Keeps precedes weight others → (by : M) → ((v : ℕ) → v < size → s .within (sum weight others v) by ≡ true) → s .within end by ≡ true
+    -- whichever begins keep the precedences, a value that bounds every sum there is the same end or a greater one
+    pub soonest : (others : ℕ → M) → Keeps precedes weight others → (last : M) → ((v : ℕ) → v < size → s .within (sum weight others v) last ≡ true) → s .within end last ≡ true
 
   -- places and their weights have one timetable
   abbrev pub OnlyOne : Type 0
@@ -44,14 +48,14 @@ module _ {M : Type 0} (s : Scale M) where
       → ((v : ℕ) → v < size → begin v ≡ others v) × (end ≡ other)
 
   -- the value of each place in a list
-  abbrev pub by : List M → ℕ → M
-  by xs v = getD xs v (s .zero)
+  abbrev pub byPlace : List M → ℕ → M
+  byPlace xs v = getD xs v (s .zero)
 
   -- the timetable is written: there is an entry for each place in both lists, and the entries past the last place are as before
   pub record Written (size : ℕ) (precedes : ℕ → ℕ → Bool) (weights before after : List M) (end : M) : Type 0 where
     pub weighed : size ≤ length weights
     pub room : size ≤ length before
-    pub table : Timetable size precedes (by weights) (by after) end
+    pub table : Timetable size precedes (byPlace weights) (byPlace after) end
     pub same : (k : ℕ) (d : M) → size ≤ k → getD after k d ≡ getD before k d
 
   -- a list is too short: the number of places is named, and nothing is written

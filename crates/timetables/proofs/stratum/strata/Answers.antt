@@ -6,4 +6,4 @@ use Rattle.timetables.proofs.stratum.strata.Needs as need
 pub returns : need.returns
 returns c =
     let card = c .args .card .now in
-    stratified (sizeOf card) (precedesOf card) (upward card) (card .plan .few) (c .args .begins .now) (c .timetable .last .begins) (c .timetable .result) (c .timetable .ensures)
+    stratified (sizeOf card) (precedesOf card) (upward card) (card .plan .few) (c .args .begins .now) (c .one-step-each .last .begins) (c .one-step-each .result) (c .one-step-each .ensures)
