@@ -1,14 +1,13 @@
 -- The table of precedence, read and written a row at a time.
-use mathlib.Core.Path.{_≡_, refl, sym, ap, _∙_}
-use mathlib.Core.Bool.{Bool, true, false, _&&_}
+use mathlib.Core.Path.{_≡_, sym, ap, _∙_}
+use mathlib.Core.Bool.{false}
 use mathlib.Core.List.{List, [], _∷_, map}
 use mathlib.Core.Logic.{_⊎_, inl, inr}
-use Prim.Native.Nat.{ℕ, zero, suc, _<_, _≤_}
+use Prim.Native.Nat.{ℕ, _<_, _≤_}
 use native.Mathlib.Omega.{arith}
-use lib.Dec.{ltb}
 use lib.ListN.{length, getD, set, replicate}
 use Rattle.std.proofs.shelf.Lists.{getD-map, getD-past, length-map, length-set, getD-set-same, getD-set-other, getD-replicate, length-replicate}
-use Rattle.std.proofs.shelf.Tests.{cases-lt, cases-eq, and-parts, ltb-true, both-ways}
+use Rattle.std.proofs.shelf.Tests.{cases-lt}
 use Rattle.facts.specs.declared.NumberSet.{NumberSet}
 use Rattle.facts.specs.Sets.{holds}
 use Rattle.facts.proofs.Words.{holds-past}
@@ -45,12 +44,3 @@ marked-none n row empty u v =
           ∙ ap (λ (r : NumberSet 4). holds (r .words) u) (getD-replicate n v row row l) ∙ empty u
       | inr l ↦ marked-past (replicate n row) u v (omega (arith, length-replicate n row))
     ]
-
--- where a mark has a higher place below the count, a place past the count has none
-pub unmarked : (rows : List (NumberSet 4)) (count : ℕ) → ((u v : ℕ) → marked rows u v ≡ true → (ltb u v && ltb v count) ≡ true)
-    → (u v : ℕ) → count ≤ v → marked rows u v ≡ false
-unmarked rows count up u v l =
-    elim (marked rows u v) as (λ b. (marked rows u v ≡ b) → b ≡ false) [
-      | false ↦ λ e. refl
-      | true ↦ λ e. absurd (omega (arith, ltb-true v count (and-parts (ltb u v) (ltb v count) (up u v e) .1)))
-    ] refl

@@ -32,12 +32,9 @@ use Rattle.std.specs.declared.result.Result.the-variants.{Ok, Err}
 use Rattle.checks.specs.declared.fault.PlanFault.{PlanFault}
 use Rattle.checks.specs.declared.fault.PlanFault.the-variants.{Sheet, Mismatch, NeedMissing, NoOrder, GoalMissing}
 use Rattle.checks.specs.declared.draft.Draft.{Draft}
-use Rattle.checks.specs.declared.arrangement.Arrangement.{Arrangement}
-use Rattle.checks.specs.Arrangements.{Arranges}
-use Rattle.checks.specs.Rows.{marked}
-use Rattle.checks.specs.Tables.{blank, placesIn, Exact}
+use Rattle.checks.specs.Tables.{blank}
 use Rattle.checks.specs.Checked.{Matches, PassTo, factsAfter, Checked, EndsIn, Reached}
-use Rattle.checks.specs.Drafts.{placesOf, Filled, Drafted}
+use Rattle.checks.specs.Drafts.{placesOf, Filled, Drafted, PlanDrafted}
 use Rattle.checks.specs.Levels.{Grown, LevelPassed, LacksNeed, LevelRefused}
 
 total-push : (plan : List (List ℕ)) (xs : List ℕ) → total (plan ++ xs ∷ []) ≡ total plan + length xs
@@ -180,8 +177,9 @@ module _ (m : Model) (t : Task) (k : ℕ) (words : List ℕ) (d : Draft) (h : Dr
       }
 
 -- what is left of a list begins with y
-pub next-of : (xs : List (List ℕ)) (k : ℕ) (y : List ℕ) (ys : List (List ℕ)) → drop k xs ≡ y ∷ ys → (k < length xs) × (getD xs k [] ≡ y) × (drop (k + 1) xs ≡ ys)
-next-of xs k y ys e =
+pub next-of : (xs : List (List ℕ)) (k : ℕ) (y : List ℕ) (ys r : List (List ℕ)) → drop k xs ≡ r → r ≡ y ∷ ys → (k < length xs) × (getD xs k [] ≡ y) × (drop (k + 1) xs ≡ ys)
+next-of xs k y ys r f g =
+    let e = f ∙ g in
     let l : k < length xs = omega (arith, length-drop k xs, ap length e) in
     let d = drop-more xs k [] l in
     (l, heads _ _ _ _ (sym d ∙ e) .0, heads _ _ _ _ (sym d ∙ e) .1)
@@ -197,8 +195,8 @@ module _ (m : Model) (t : Task) (words : List ℕ) (d : Draft) (h : Drafted m t 
   pub all-recognized : Recognized m (listed (t .start)) (t .levels)
   all-recognized = subst (Recognized m (listed (t .start))) whole (h .passed)
 
-  pub all-arranged : Arranged m (t .levels) (placesOf d)
-  all-arranged = subst (λ plan. Arranged m plan (placesOf d)) whole (h .arranged)
+  pub all-drafted : PlanDrafted m t d
+  all-drafted = record { arranged = subst (λ plan. Arranged m plan (placesOf d)) whole (h .arranged); filled = h .filled }
 
   pub all-ends : EndsIn m t words
   all-ends q = h .facts q ∙ ap (λ plan. finally m (listed (t .start)) plan q) whole
@@ -216,12 +214,3 @@ module _ (m : Model) (t : Task) (words : List ℕ) (d : Draft) (h : Drafted m t 
 
   pub goal-reached : ((p : ℕ) → listed (t .goal) p ≡ true → holds words p ≡ true) → Accepted m (listed (t .start)) (listed (t .goal)) (t .levels)
   goal-reached r = record { recognized = all-recognized; reached = λ p g. sym (all-ends p) ∙ r p g }
-
--- an arrangement with the places of the draft of a plan
-pub arranges : (m : Model) (t : Task) (d : Draft) (a : Arrangement) → a .count ≡ d .count → a .places ≡ d .places → Arranged m (t .levels) (placesOf d)
-    → ((u : ℕ) → u < d .count → 0 < getD (d .places) u blank .level) → Exact m (placesOf d) (marked (a .before)) → Arranges m t a
-arranges m t d a n p w l x = record {
-  arranged = rw (n, p) w;
-  numbered = rw (n, p) l;
-  exact = rw (n, p) x;
-}

@@ -76,3 +76,9 @@ set-more ps n j q p old new r l e a b i =
           let s : eqb q p ≡ false = ne-eqb q p k in
           rw w (grind (arith, tells)))
     ]
+
+-- the numbers of a part of a sheet are those of the list that it says
+pub part-said : (s : TaskSheet) (which : Part) (ps : List ℕ) (q : ℕ) → ps ≡ listOf (taskOf s) which → (ltb q 1024 && listed ps q) ≡ listed (listOf (taskOf s) which) q
+part-said s which ps q e =
+    subst (λ xs. (ltb q 1024 && listed ps q) ≡ listed xs q) e
+    (listed-below ps 1024 q (λ j. subst (λ xs. j < length xs → getD xs j 0 < 1024) (sym e) (list-below (taskOf s) (sheet-lawful s) which j)))

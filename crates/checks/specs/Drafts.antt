@@ -34,3 +34,8 @@ pub record Drafted (m : Model) (t : Task) (k : ℕ) (words : List ℕ) (d : Draf
   pub arranged : Arranged m (take k (t .levels)) (placesOf d)
   pub count : d .count ≡ total (take k (t .levels))
   pub filled : Filled m d
+
+-- the draft holds the places of the whole plan
+pub record PlanDrafted (m : Model) (t : Task) (d : Draft) : Type 0 where
+  pub arranged : Arranged m (t .levels) (placesOf d)
+  pub filled : Filled m d

@@ -63,6 +63,9 @@ impl Arrangement {
     pub fn precedes(&self, u: usize, v: usize) -> bool
         ensures { λ r. ⌜ r ≡ marked (now (self .entry) .before) u v ⌝ }
     {
-        v < self.count && self.before[v].contains(u)
+        if v >= self.count {
+            return false;
+        }
+        self.before[v].contains(u)
     }
 }

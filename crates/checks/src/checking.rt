@@ -9,7 +9,7 @@ ghost use Rattle.facts.specs.Sets.{holds};
 ghost use Rattle.task_sheets.specs.Opened.{taskOf};
 ghost use Rattle.checks.specs.Arrangements.{Arranges};
 ghost use Rattle.checks.specs.Checked.{Matches, Checked, EndsIn, OneAnswer, Reached, bare};
-ghost use Rattle.checks.specs.Drafts.{Drafted};
+ghost use Rattle.checks.specs.Drafts.{Drafted, PlanDrafted};
 use crate::arrangement::Arrangement;
 use crate::draft::Draft;
 use crate::fault::PlanFault;
@@ -57,7 +57,8 @@ fn reach_goal(task: &TaskSheet, end: &FactSet) -> Result<(), PlanFault>
 fn judge<B: Book>(book: &B, task: &TaskSheet, draft: &mut Draft) -> Result<[u64; 16], PlanFault>
     requires { ⌜ now draft .count ≡ 0 ⌝ }
     ensures answer { λ r. ⌜ Checked (B·Book .model (now (book .entry))) (taskOf (now (task .entry))) (bare r) ⌝ }
-    ensures drafted { λ r. ⌜ made r (λ words. Drafted (B·Book .model (now (book .entry))) (taskOf (now (task .entry))) (length (taskOf (now (task .entry)) .levels)) words (now (draft .exit))) ⌝ }
+    ensures facts { λ r. ⌜ made r (EndsIn (B·Book .model (now (book .entry))) (taskOf (now (task .entry)))) ⌝ }
+    ensures drafted { λ r. ⌜ made r (λ _. PlanDrafted (B·Book .model (now (book .entry))) (taskOf (now (task .entry))) (now (draft .exit))) ⌝ }
 {
     if task.facts() != book.facts() || task.steps() != book.steps() {
         return Err(PlanFault::Mismatch);

@@ -124,27 +124,32 @@ fn some_order_is_enough() -> Result<(), Fail> {
     check(facts == set(&[false, true, true, true]))
 }
 
+// The first eleven bytes.
+fn cut(bytes: &[u8]) -> &[u8] {
+    if bytes.len() > 11 {
+        &bytes[0..11]
+    } else {
+        bytes
+    }
+}
+
 #[test]
 fn counts_and_sheets_come_first() -> Result<(), Fail> {
     refused(RACK, OTHER_COUNTS, PlanFault::Mismatch)?;
     let refusal = Refusal::Short;
     let place = 11;
-    refused(
-        &RACK[0..11],
-        TWO_LEVELS,
-        PlanFault::Sheet(SheetFault {
-            sheet: Sheet::Book,
-            refusal,
-            place,
-        }),
-    )?;
-    refused(
-        RACK,
-        &TWO_LEVELS[0..11],
-        PlanFault::Sheet(SheetFault {
-            sheet: Sheet::Task,
-            refusal,
-            place,
-        }),
-    )
+    let sheet = Sheet::Book;
+    let book = PlanFault::Sheet(SheetFault {
+        sheet,
+        refusal,
+        place,
+    });
+    refused(cut(RACK), TWO_LEVELS, book)?;
+    let sheet = Sheet::Task;
+    let task = PlanFault::Sheet(SheetFault {
+        sheet,
+        refusal,
+        place,
+    });
+    refused(RACK, cut(TWO_LEVELS), task)
 }

@@ -18,6 +18,8 @@ use timetables::Seconds;
 use timetables::SecondsMeasure;
 use timetables::StepCount;
 use timetables::StepCountMeasure;
+use timetables::step_count::StepCountDebug;
+use timetables::step_count::StepCountPartialEq;
 use timetables::strata;
 use timetables::timetable;
 
@@ -55,11 +57,10 @@ fn two_levels_take_1980_seconds() -> Result<(), Fail> {
     ];
     let mut begins = [Seconds { count: 9 }; 5];
     check_eq(timetable(&card, &weights, &mut begins)?.count, 1980)?;
-    for (u, layer, at) in [(0, 0, 0), (1, 1, 60), (2, 2, 1860), (3, 3, 1920), (4, 9, 9)] {
-        check_eq(stratum[u].count, layer)?;
-        check_eq(begins[u].count, at)?;
-    }
-    Ok(())
+    check(stratum[0].count == 0 && stratum[1].count == 1)?;
+    check(stratum[2].count == 2 && stratum[3].count == 3 && stratum[4].count == 9)?;
+    check(begins[0].count == 0 && begins[1].count == 60)?;
+    check(begins[2].count == 1860 && begins[3].count == 1920 && begins[4].count == 9)
 }
 
 #[test]

@@ -20,7 +20,8 @@ fn the_rack_has_its_sheet() -> Result<(), Fail> {
     let rack = Rack::new(2, 1)?;
     let mut out = [7; 133];
     check_eq(write_book(&rack, &mut out), Ok(131))?;
-    check_eq(&out[0..131], &RACK[0..131])?;
+    let rack_sheet = *RACK;
+    check_eq(&out[0..131], &rack_sheet[0..131])?;
     check_eq(&out[131..133], &[7, 7])?;
     let mut short = [7; 130];
     check_eq(write_book(&rack, &mut short), Err(TooShort { needed: 131 }))?;

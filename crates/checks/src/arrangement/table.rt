@@ -7,9 +7,9 @@ ghost use Rattle.facts.specs.Sets.{holds};
 ghost use Rattle.books.specs.Book.{Model};
 ghost use Rattle.plans.specs.Steps.{Authorizes};
 ghost use Rattle.plans.specs.Places.{Precedes, InOrder};
-ghost use Rattle.checks.specs.Rows.{marked};
-ghost use Rattle.checks.specs.Tables.{Exact};
-ghost use Rattle.checks.specs.Drafts.{Filled, placesOf};
+ghost use Rattle.task_sheets.specs.Content.{Task};
+ghost use Rattle.checks.specs.Arrangements.{Arranges};
+ghost use Rattle.checks.specs.Drafts.{Filled, PlanDrafted, placesOf};
 use crate::arrangement::Arrangement;
 use crate::authorize::authorizes;
 use crate::authorize::feeds;
@@ -56,9 +56,7 @@ fn row_of(draft: &Draft, v: usize) -> PlaceSet
 impl Arrangement {
     // The places of the draft, with the table of which precede which.
     pub(crate) fn of(draft: &Draft) -> Arrangement
-        ensures count { λ r. ⌜ r .count ≡ now (draft .entry) .count ⌝ }
-        ensures places { λ r. ⌜ r .places ≡ now (draft .entry) .places ⌝ }
-        ensures exact { λ r. ⌜ ((m : Model) → Filled m (now (draft .entry)) → InOrder m (placesOf (now (draft .entry))) → Exact m (placesOf (now (draft .entry))) (marked (r .before))) ⌝ }
+        ensures { λ r. ⌜ ((m : Model) (t : Task) → PlanDrafted m t (now (draft .entry)) → Arranges m t r) ⌝ }
     {
         let mut before = [PlaceSet::empty(); 256];
         for v in 0..draft.count {

@@ -1,16 +1,9 @@
-use mathlib.Core.Path.{_≡_, ap, _∙_}
-use mathlib.Core.Bool.{_&&_}
-use Prim.Native.Nat.{ℕ}
-use lib.Dec.{ltb}
-use Rattle.books.specs.Listed.{listed}
-use Rattle.task_sheets.specs.Parts.{listOf}
-use Rattle.task_sheets.specs.Opened.{taskOf}
-use Rattle.checks.proofs.TaskLists.{listed-below, list-below, sheet-lawful}
+use mathlib.Core.Path.{_∙_}
+use Rattle.task_sheets.specs.Parts.{numbersOf}
+use Rattle.checks.proofs.TaskLists.{part-said}
 use Rattle.checks.proofs.reading.part_set.Needs as need
 
 pub returns-in-Some : need.returns-in-Some
 returns-in-Some c q =
-    let t = taskOf (c .args .task .now) in
     c .set-of .ensures q
-    ∙ ap (λ ps. ltb q 1024 && listed ps q) (c .numbers .ensures ∙ c .in-Some .ensures tt .says)
-    ∙ listed-below (listOf t (c .args .which)) 1024 q (list-below t (sheet-lawful (c .args .task .now)) (c .args .which))
+    ∙ part-said (c .args .task .now) (c .args .which) (numbersOf (c .numbers .result)) q (c .numbers .ensures ∙ c .in-Some .ensures tt .says)

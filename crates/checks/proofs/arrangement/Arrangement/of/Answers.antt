@@ -6,6 +6,7 @@ use native.Mathlib.Omega.{arith}
 use lib.ListN.{length}
 use Rattle.std.proofs.shelf.Lists.{length-set}
 use Rattle.plans.specs.Places.{Precedes}
+use Rattle.plans.proofs.Arranging.{ascent}
 use Rattle.checks.specs.Drafts.{placesOf}
 use Rattle.checks.specs.Rows.{marked}
 use Rattle.checks.proofs.Marks.{marked-none}
@@ -48,11 +49,12 @@ ghost-result c =
     )
 
 pub returns : need.returns
-returns c =
+returns c m t w =
     let done : c .args .draft .now .count ≡ c .loop-v .v = omega arith in
+    let o = ascent m (t .levels) (placesOf (c .args .draft .now)) (w .arranged) in
     record {
-      count = refl;
-      places = refl;
-      exact = λ m f o u v l k. table-exact (c .loop-v .v) (c .loop-v .before) (c .loop-v .inv .1) (c .loop-v .inv .2)
-          (Precedes m (placesOf (c .args .draft .now))) (c .loop-v .inv .3 m f o) (λ x y i j. o .upward x y (omega arith) (omega arith)) u v (omega arith) (omega arith);
+      arranged = w .arranged;
+      numbered = w .filled .level;
+      exact = λ u v l k. table-exact (c .loop-v .v) (c .loop-v .before) (c .loop-v .inv .1) (c .loop-v .inv .2)
+          (Precedes m (placesOf (c .args .draft .now))) (c .loop-v .inv .3 m (w .filled) o) (λ x y i j. o .upward x y (omega arith) (omega arith)) u v (omega arith) (omega arith);
     }
