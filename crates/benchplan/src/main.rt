@@ -25,7 +25,10 @@ use timetables::StepCount;
 use timetables::strata;
 use timetables::timetable;
 
-// One byte more than the longest sheet that is read.
+// The longest sheet that is opened.
+const LONGEST: usize = 65536;
+
+// One byte more, so that a longer sheet is known.
 const MOST: u64 = 65537;
 
 // The bytes of a file, at most 65,537 of them; a missing file counts as empty.
@@ -154,23 +157,33 @@ fn print_issue(rt: &LibcRuntime, book: &BookSheet, task: &TaskSheet) -> io::Resu
     }
 }
 
-fn run(rt: &LibcRuntime) -> Result<(), AnyError> {
-    let book_bytes = read_sheet(rt, "book.bin")?;
+// Opens both sheets, book first, and goes on with the plan.
+fn print_sheets(rt: &LibcRuntime, book_bytes: &[u8], task_bytes: &[u8]) -> io::Result<()> {
     let mut book = BookSheet::new();
-    if let Err(fault) = book.open(book_bytes.as_slice()) {
-        println!(rt, "book {fault}")?;
-        return Ok(());
+    if let Err(fault) = book.open(book_bytes) {
+        return println!(rt, "book {fault}");
     }
     print_book(rt, &book)?;
-    let task_bytes = read_sheet(rt, "task.bin")?;
     let mut task = TaskSheet::new();
-    if let Err(fault) = task.open(task_bytes.as_slice()) {
-        println!(rt, "task {fault}")?;
-        return Ok(());
+    if let Err(fault) = task.open(task_bytes) {
+        return println!(rt, "task {fault}");
     }
     print_task(rt, &task)?;
     print_check(rt, &book, &task)?;
-    print_issue(rt, &book, &task)?;
+    print_issue(rt, &book, &task)
+}
+
+// Reads both files; a sheet that is too long is refused before either is opened.
+fn run(rt: &LibcRuntime) -> Result<(), AnyError> {
+    let book = read_sheet(rt, "book.bin")?;
+    let task = read_sheet(rt, "task.bin")?;
+    if book.len() > LONGEST {
+        println!(rt, "book refused 19")?;
+    } else if task.len() > LONGEST {
+        println!(rt, "task refused 19")?;
+    } else {
+        print_sheets(rt, book.as_slice(), task.as_slice())?;
+    }
     Ok(())
 }
 
