@@ -1,23 +1,11 @@
 -- What a board may hold, and what the cells of a tally board mean.
-use Rattle.std.specs.Prelude.{◌≡◌, ℕ, ◌+◌, ◌-◌, ◌^◌, ◌≤◌, min, Bool, false, cond, not, List, ◌==◌, slice_index}
+use Rattle.std.specs.Prelude.{◌≡◌, ℕ, ◌+◌, ◌-◌, ◌^◌, ◌≤◌, min, false, not, List, ◌==◌, slice_index}
 use Rattle.books.specs.Book.{Facts}
 
 -- the laws of a board that holds a set of facts below its span
 pub record LawfulBoard (limit : ℕ) (set : Facts) : Type 0 where
   pub small : limit ≤ 1024
   pub above : (p : ℕ) → limit ≤ p → set p ≡ false
-
--- a board that counts how often each fact was put holds a fact unless its count is 0
-abbrev pub Counting : Facts → (ℕ → ℕ) → Type 0
-Counting set tally = (p : ℕ) → set p ≡ not (tally p == 0)
-
--- a count that is cleared, or not, and then raised by a put, or not
-abbrev pub changed : (ℕ → ℕ) → Bool → Bool → ℕ → ℕ
-changed raise cleared put n = cond put (raise (cond cleared 0 n)) (cond cleared 0 n)
-
--- the counts of a board with a bit for each fact, which a put sets to 1
-abbrev pub bit_tally : Facts → ℕ → ℕ
-bit_tally set p = cond (set p) 1 0
 
 -- the count of fact p; 0 past the cells
 abbrev pub counted : List ℕ → ℕ → ℕ

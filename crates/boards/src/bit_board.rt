@@ -1,7 +1,6 @@
 ghost use Rattle.std.specs.Prelude.{◌≡◌, ℕ, false};
 ghost use Rattle.facts.specs.Sets.{holds};
-ghost use Rattle.boards.specs.Board.{bit_tally};
-ghost use Rattle.boards.specs.Laws.{bits_lawful, bits_counted};
+ghost use Rattle.boards.specs.Laws.{bits_lawful};
 
 use crate::board::Board;
 use facts::FactSet;
@@ -28,13 +27,7 @@ impl Board for BitBoard {
 
     ghost set = { λ b. holds b.facts.words };
 
-    ghost tally = { λ b. bit_tally (holds b.facts.words) };
-
-    ghost raise = { λ _. 1 };
-
     ghost lawful = { λ b. bits_lawful b.facts.words b.facts.whole };
-
-    ghost counting = { λ b. bits_counted (holds b.facts.words) };
 
     fn span(&self) -> usize {
         1024

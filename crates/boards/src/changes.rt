@@ -1,8 +1,7 @@
 // What is done to a board of any kind: a step, a change by two sets, a new set of facts.
-ghost use Rattle.std.specs.Prelude.{◌≡◌, ℕ, false, not, ◌&&◌, ◌||◌, if◌then◌else◌, nat_lt};
+ghost use Rattle.std.specs.Prelude.{◌≡◌, ℕ, false, not, ◌&&◌, ◌||◌, nat_lt};
 ghost use Rattle.books.specs.Book.{after};
 ghost use Rattle.facts.specs.Sets.{holds};
-ghost use Rattle.boards.specs.Board.{changed};
 
 use crate::board::Board;
 use books::{Book, gather};
@@ -12,7 +11,6 @@ use facts::FactSet;
 fn clear_all<D: Board>(board: &mut D)
     ensures span { D.Board.limit board.new ≡ D.Board.limit board.old }
     ensures holds { (q : ℕ) → D.Board.set board.new q ≡ false }
-    ensures counts { (q : ℕ) → D.Board.tally board.new q ≡ 0 }
 {
     for p in 0..board.span() {
         board.clear(p);
@@ -23,7 +21,6 @@ fn clear_all<D: Board>(board: &mut D)
 fn clear_each<D: Board>(board: &mut D, facts: &FactSet)
     ensures span { D.Board.limit board.new ≡ D.Board.limit board.old }
     ensures holds { (q : ℕ) → D.Board.set board.new q ≡ (D.Board.set board.old q && not (holds facts.now.words q)) }
-    ensures counts { (q : ℕ) → D.Board.tally board.new q ≡ (if holds facts.now.words q && nat_lt q (D.Board.limit board.old) then 0 else D.Board.tally board.old q) }
 {
     for p in 0..board.span() {
         if facts.contains(p) {
@@ -36,7 +33,6 @@ fn clear_each<D: Board>(board: &mut D, facts: &FactSet)
 fn put_each<D: Board>(board: &mut D, facts: &FactSet)
     ensures span { D.Board.limit board.new ≡ D.Board.limit board.old }
     ensures holds { (q : ℕ) → D.Board.set board.new q ≡ (D.Board.set board.old q || (holds facts.now.words q && nat_lt q (D.Board.limit board.old))) }
-    ensures counts { (q : ℕ) → D.Board.tally board.new q ≡ (if holds facts.now.words q && nat_lt q (D.Board.limit board.old) then D.Board.raise (D.Board.tally board.old q) else D.Board.tally board.old q) }
 {
     for p in 0..board.span() {
         if facts.contains(p) {
@@ -49,7 +45,6 @@ fn put_each<D: Board>(board: &mut D, facts: &FactSet)
 pub fn replace<D: Board>(board: &mut D, deletes: &FactSet, adds: &FactSet)
     ensures span { D.Board.limit board.new ≡ D.Board.limit board.old }
     ensures holds { (q : ℕ) → D.Board.set board.new q ≡ ((D.Board.set board.old q && not (holds deletes.now.words q)) || (holds adds.now.words q && nat_lt q (D.Board.limit board.old))) }
-    ensures counts { (q : ℕ) → D.Board.tally board.new q ≡ changed D.Board.raise (holds deletes.now.words q && nat_lt q (D.Board.limit board.old)) (holds adds.now.words q && nat_lt q (D.Board.limit board.old)) (D.Board.tally board.old q) }
 {
     clear_each(board, deletes);
     put_each(board, adds);
@@ -59,7 +54,6 @@ pub fn replace<D: Board>(board: &mut D, deletes: &FactSet, adds: &FactSet)
 pub fn do_step<B: Book, D: Board>(book: &B, board: &mut D, a: usize)
     ensures span { D.Board.limit board.new ≡ D.Board.limit board.old }
     ensures holds { (q : ℕ) → D.Board.set board.new q ≡ (after (B.Book.model book.now) (D.Board.set board.old) a q && nat_lt q (D.Board.limit board.old)) }
-    ensures counts { (q : ℕ) → D.Board.tally board.new q ≡ changed D.Board.raise ((B.Book.model book.now).deletes a q && nat_lt q (D.Board.limit board.old)) ((B.Book.model book.now).adds a q && nat_lt q (D.Board.limit board.old)) (D.Board.tally board.old q) }
 {
     let sets = gather(book, a);
     replace(board, &sets.deletes, &sets.adds);
@@ -69,7 +63,6 @@ pub fn do_step<B: Book, D: Board>(book: &B, board: &mut D, a: usize)
 pub fn set_to<D: Board>(board: &mut D, facts: &FactSet)
     ensures span { D.Board.limit board.new ≡ D.Board.limit board.old }
     ensures holds { (q : ℕ) → D.Board.set board.new q ≡ (holds facts.now.words q && nat_lt q (D.Board.limit board.old)) }
-    ensures counts { (q : ℕ) → D.Board.tally board.new q ≡ (if holds facts.now.words q && nat_lt q (D.Board.limit board.old) then D.Board.raise 0 else 0) }
 {
     clear_all(board);
     put_each(board, facts);

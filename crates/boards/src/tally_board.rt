@@ -1,4 +1,4 @@
-ghost use Rattle.std.specs.Prelude.{◌≡◌, ℕ, length, refl};
+ghost use Rattle.std.specs.Prelude.{◌≡◌, ℕ, false, not, ◌&&◌, ◌||◌, length, if◌then◌else◌, ◌==◌, nat_eq, nat_lt};
 ghost use Rattle.boards.specs.Board.{counted, in_cells, raised, tally_span};
 ghost use Rattle.boards.specs.Laws.{cells_lawful};
 
@@ -32,13 +32,7 @@ impl Board for TallyBoard {
 
     ghost set = { λ b. in_cells b.cells };
 
-    ghost tally = { λ b. counted b.cells };
-
-    ghost raise = { raised };
-
     ghost lawful = { λ b. cells_lawful b.cells b.whole };
-
-    ghost counting = { λ b p. refl };
 
     fn span(&self) -> usize {
         512
@@ -49,7 +43,12 @@ impl Board for TallyBoard {
     }
 
     // Adds 1 to the count of `p`, up to the largest number, and leaves the others.
-    fn put(&mut self, p: usize) -> bool {
+    fn put(&mut self, p: usize) -> bool
+        ensures answer { result ≡ nat_lt p (tally_span self.old.cells) }
+        ensures span { tally_span self.new.cells ≡ tally_span self.old.cells }
+        ensures after { (q : ℕ) → in_cells self.new.cells q ≡ (in_cells self.old.cells q || (result && q == p)) }
+        ensures counts { (q : ℕ) → counted self.new.cells q ≡ (if result && q == p then raised (counted self.old.cells q) else counted self.old.cells q) }
+    {
         if p >= 512 {
             return false;
         }
@@ -58,7 +57,12 @@ impl Board for TallyBoard {
     }
 
     // Sets the count of `p` to 0, and leaves the others.
-    fn clear(&mut self, p: usize) -> bool {
+    fn clear(&mut self, p: usize) -> bool
+        ensures answer { result ≡ nat_lt p (tally_span self.old.cells) }
+        ensures span { tally_span self.new.cells ≡ tally_span self.old.cells }
+        ensures after { (q : ℕ) → in_cells self.new.cells q ≡ (in_cells self.old.cells q && not (q == p)) }
+        ensures counts { (q : ℕ) → counted self.new.cells q ≡ (if nat_eq q p then 0 else counted self.old.cells q) }
+    {
         if p >= 512 {
             return false;
         }

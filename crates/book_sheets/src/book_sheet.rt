@@ -171,7 +171,7 @@ mod tests {
         let mut sheet = BookSheet::new();
         match sheet.open(bytes) {
             Ok(()) => (0, 0),
-            Err(fault) => (fault.number(), fault.place),
+            Err(fault) => (fault.refusal.number(), fault.place),
         }
     }
 

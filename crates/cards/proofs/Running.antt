@@ -1,7 +1,7 @@
--- However the places of an issued card are begun, finished, put back and looked at, what a run keeps stays kept.
-use Rattle.std.proofs.Common.{◌≡◌, ℕ, zero, suc, ◌<◌, ◌≤◌, Bool, true, false, cond, not, ◌&&◌, ◌||◌, eqb, ◌⊎◌, List, [], ◌∷◌, Ok, Err, Result, sym, refl, ap, ◌∙◌, subst, inl, inr, arith}
+-- However the places of an issued card are begun, finished and put back, what a run keeps stays kept.
+use Rattle.std.proofs.Common.{◌≡◌, ℕ, zero, suc, ◌<◌, ◌≤◌, Bool, true, false, cond, not, ◌&&◌, ◌||◌, eqb, ltb, ◌⊎◌, List, [], ◌∷◌, Ok, Err, Result, sym, refl, ap, ◌∙◌, subst, inl, inr, arith}
 use mathlib.Core.Path.{fun_ext}
-use Rattle.std.proofs.lemmas.Bool.{both_ways, cases_eq, eqb-true, eq-eqb, ne_eqb, or_cases, or_right}
+use Rattle.std.proofs.lemmas.Bool.{both_ways, cases_eq, cases_lt, eqb-true, eq-eqb, ne_eqb, or_cases, or_right, lt-ltb, le-ltb}
 use Rattle.books.specs.Book.{Model, Facts, Lawful, after}
 use Rattle.books.specs.Listed.{listed}
 use Rattle.plans.specs.Places.{Places, Precedes, InOrder, Closed, Ready, left, left_below, all, Lays}
@@ -13,19 +13,13 @@ use Rattle.task_sheets.specs.Content.{Task}
 use Rattle.cards.specs.States.{finished}
 use Rattle.cards.specs.Moments.{Setting, Moment, done, turned, worked}
 use Rattle.cards.specs.Answers.{asks, leaves, Granted, board_after, Answered}
-use Rattle.cards.specs.Replies.{Replied}
 use Rattle.cards.specs.Runs.{Issued, Remains, GoesOn, Kept, Made, Trail, Throughout, ByRule, RunLaw}
 use Rattle.cards.specs.declared.state.State.{State}
 use Rattle.cards.specs.declared.state.State.TheVariants.{Waiting, InHand, Finished}
 use Rattle.cards.specs.declared.state.Event.{Event}
 use Rattle.cards.specs.declared.state.Event.TheVariants.{Begin, Finish, PutBack}
-use Rattle.cards.specs.declared.request.Request.{Request}
-use Rattle.cards.specs.declared.request.Request.TheVariants.{Call, Look}
-use Rattle.cards.specs.declared.request.Reply.{Reply}
 use Rattle.cards.specs.declared.fault.RunFault.{RunFault}
-use Rattle.cards.proofs.Spans.{cut}
-use Rattle.cards.proofs.Answering.{finish_begin, moved, next, next_is}
-use Rattle.cards.proofs.Replies.{call_answered, look_still, rightly}
+use Rattle.cards.proofs.Answering.{finish_begin, moved, next, next_is, granted_by_rule}
 
 not_finished : Finished ≡ InHand → ⊥
 not_finished e = let z : ◌≡◌ {A = ℕ} 0 1 = cc in omega arith
@@ -109,39 +103,33 @@ module _ (m : Model) (o : Places) (up : InOrder m o) (E : Facts) where
             ∙ sym (commuting m o up E (done b) w.closed h l (ap finished e) p) ∙ ap (λ d. left m o E d p) q;
       }
 
--- what places leave of some facts has no fact past those that the book's steps add
-no_more : (m : Model) (o : Places) (E : Facts) (d : ℕ → Bool) (q : ℕ) → E q ≡ false → ((a : ℕ) → m.adds a q ≡ false) → (n : ℕ) → left_below m o E d n q ≡ false
-no_more m o E d q e f zero = e
-no_more m o E d q e f (suc n) = let ih = no_more m o E d q e f n in let a = f (o.step n) in grind arith
-
-gone : (x del add : Bool) → x ≡ false → add ≡ false → ((x && not del) || add) ≡ false
-gone x del add e f = grind arith
+fits : (add low : Bool) → (low ≡ false → add ≡ false) → (add && low) ≡ add
+fits add low f = grind arith
 
 module _ (s : Setting) (law : Lawful s.book) (t : Task) (b₀ : Moment) (issued : Issued s t b₀) where
   up : InOrder s.book s.places
-  up = ascent s.book t.levels s.places issued.drawn.places
+  up = ascent s.book t.levels s.places issued.places
 
   abbrev Fine : Moment → Type 0
   Fine = Sound s.book s.places (listed t.start)
 
-  far : (q : ℕ) → s.span ≤ q → s.book.facts ≤ q
-  far q l = omega (arith, issued.drawn.room)
-
-  -- the board has room for what the step leaves
-  roomy : (b : Moment) → Fine b → (h q : ℕ) → worked s b.board h q ≡ after s.book b.board (s.places.step h) q
-  roomy b w h q =
-      cut (after s.book b.board (s.places.step h) q) s.span q
-      (λ l. gone (b.board q) (s.book.deletes (s.places.step h) q) (s.book.adds (s.places.step h) q)
-      (w.held q ∙ no_more s.book s.places (listed t.start) (done b) q (issued.drawn.known q (far q l)) (λ a. law.adds.no_fact a q (far q l)) s.places.size)
-      (law.adds.no_fact (s.places.step h) q (far q l)))
+  -- the board has room for what the step adds
+  roomy : (board : Facts) (h q : ℕ) → worked s board h q ≡ after s.book board (s.places.step h) q
+  roomy board h q =
+      ap (λ x. (board q && not (s.book.deletes (s.places.step h) q)) || x)
+      (fits (s.book.adds (s.places.step h) q) (ltb q s.span)
+      (λ e. elim (cases_lt q s.span) [
+        | inl l ↦ absurd (both_ways _ e (lt-ltb q s.span l))
+        | inr l ↦ law.adds.no_fact (s.places.step h) q (omega (arith, issued.room))
+      ]))
 
   granted : (b : Moment) (e : Event) (p : ℕ) → Granted s b e p → Fine b → Fine (moved s b e p)
   granted b Begin p g w = quiet s.book s.places up _ b p InHand refl (ap finished g.state)
       (λ u k i. elim (cases_eq u p) [
-        | inl q ↦ subst (Ready s.book s.places (done b)) (sym q) (λ v l pre. g.cleared refl v l ((issued.drawn.exact v p l g.there).1 pre))
+        | inl q ↦ subst (Ready s.book s.places (done b)) (sym q) (λ v l pre. g.cleared refl v l ((issued.exact v p l g.there).1 pre))
         | inr n ↦ w.ready u k (was b.state p InHand u n i)
       ]) w
-  granted b Finish p g w = finishing s.book s.places up _ b p g.there g.state _ (roomy b w p) w
+  granted b Finish p g w = finishing s.book s.places up _ b p g.there g.state _ (roomy b.board p) w
   granted b PutBack p g w = quiet s.book s.places up _ b p Waiting refl (ap finished g.state)
       (λ u k i. w.ready u k (was b.state p Waiting u (elsewhere b.state p Waiting u not_waiting i) i)) w
 
@@ -149,17 +137,14 @@ module _ (s : Setting) (law : Lawful s.book) (t : Task) (b₀ : Moment) (issued 
   by_next b e p (Ok _) a w f = granted b e p w.0 f
   by_next b e p (Err x) a w f = f
 
-  pub onward : (b : Moment) (q : Request) (r : Reply) (a : Moment) → Replied s b q r a → Fine b → Fine a
-  onward b (Call c) r a w f =
-      let v = call_answered s b c r a w in
-      subst Fine (sym (next_is s b c.event c.place v.0 a v.2)) (by_next b c.event c.place v.0 a v.2 f)
-  onward b (Look p) r a w f = subst Fine (sym (look_still s b p r a w)) f
+  pub onward : (b : Moment) (e : Event) (p : ℕ) (r : Result (Unit {0}) RunFault) (a : Moment) → Answered s b e p r a → Fine b → Fine a
+  onward b e p r a w f = subst Fine (sym (next_is s b e p r a w)) (by_next b e p r a w f)
 
   started : Fine b₀
-  started = at_start s.book s.places up (listed t.start) b₀ issued.drawn.waiting issued.start
+  started = at_start s.book s.places up (listed t.start) b₀ issued.waiting issued.start
 
   fed : Fed s.book s.places (listed t.start)
-  fed = feeding s.book law s.places up t.levels (laying s.book t.levels s.places issued.drawn.places) (listed t.start) issued.drawn.accepted.1.recognized
+  fed = feeding s.book law s.places up t.levels (laying s.book t.levels s.places issued.places) (listed t.start) issued.accepted.1.recognized
 
   goes : (b : Moment) → Remains s b → GoesOn s b
   goes b w =
@@ -167,7 +152,7 @@ module _ (s : Setting) (law : Lawful s.book) (t : Task) (b₀ : Moment) (issued 
         h.0,
         elim (unfinished (b.state h.0) h.2) [
           | inl i ↦ inr (record { there = h.1; state = i; cleared = λ e. absurd (finish_begin e) })
-          | inr i ↦ inl (record { there = h.1; state = i; cleared = λ e u l pre. h.3 u l ((issued.drawn.exact u h.0 l h.1).0 pre) })
+          | inr i ↦ inl (record { there = h.1; state = i; cleared = λ e u l pre. h.3 u l ((issued.exact u h.0 l h.1).0 pre) })
         ],
       )
 
@@ -181,16 +166,16 @@ module _ (s : Setting) (law : Lawful s.book) (t : Task) (b₀ : Moment) (issued 
     board = w.held;
     onward = (remains b, goes b);
     final = λ f q. w.held q ∙ same s.book s.places (listed t.start) q (done b) all s.places.size (λ u l. ap finished (f u l))
-        ∙ ending s.book law s.places up t.levels (laying s.book t.levels s.places issued.drawn.places) (listed t.start) q;
+        ∙ ending s.book law s.places up t.levels (laying s.book t.levels s.places issued.places) (listed t.start) q;
   }
 
   pub throughout : (b : Moment) (calls : List Made) → Fine b → Trail s b calls → Throughout (Kept s t) b calls
   throughout b [] f w = kept b f
-  throughout b (c ∷ rest) f w = (kept b f, throughout c.after rest (onward b c.request c.reply c.after w.0 f) w.1)
+  throughout b (c ∷ rest) f w = (kept b f, throughout c.after rest (onward b c.attempt.event c.attempt.place c.answer c.after w.0 f) w.1)
 
 by_rule : (s : Setting) (b : Moment) (calls : List Made) → Trail s b calls → ByRule s b calls
 by_rule s b [] w = tt
-by_rule s b (c ∷ rest) w = (rightly s b c.request c.reply c.after w.0, by_rule s c.after rest w.1)
+by_rule s b (c ∷ rest) w = (granted_by_rule s b c.attempt.event c.attempt.place c.answer c.after w.0, by_rule s c.after rest w.1)
 
 pub run_law : RunLaw
 run_law s law t b issued calls w =

@@ -1,49 +1,49 @@
--- Trails: one for each list of requests, and one request more at the end.
+-- Trails: one for each list of calls, and one call more at the end.
 use Rattle.std.proofs.Common.{◌≡◌, ℕ, List, [], ◌∷◌, ◌++◌, map, sym, refl, ap, ◌∙◌, subst, arith}
 use Rattle.books.specs.Book.{Model, Facts}
 use Rattle.checks.specs.Rows.{marked}
 use Rattle.checks.specs.Tables.{places_in}
 use Rattle.checks.specs.declared.arrangement.Arrangement.{Arrangement}
 use Rattle.cards.specs.Moments.{Setting, Moment}
-use Rattle.cards.specs.Replies.{Replied}
+use Rattle.cards.specs.Answers.{Answered}
 use Rattle.cards.specs.Cards.{setting_of}
 use Rattle.cards.specs.Runs.{Made, Trail, after_all, OneTrail, EachRun}
 use Rattle.cards.specs.declared.card.Card.{Card}
-use Rattle.cards.specs.declared.request.Request.{Request}
-use Rattle.cards.proofs.Replies.{some_reply, one_reply}
+use Rattle.cards.specs.declared.state.Attempt.{Attempt}
+use Rattle.cards.proofs.Answering.{some_answer, one_answer}
 
-made_is : (c d : Made) → c.request ≡ d.request → c.reply ≡ d.reply → c.after ≡ d.after → c ≡ d
-made_is c d e f g = λ i. record { request = e i; reply = f i; after = g i }
+made_is : (c d : Made) → c.attempt ≡ d.attempt → c.answer ≡ d.answer → c.after ≡ d.after → c ≡ d
+made_is c d e f g = λ i. record { attempt = e i; answer = f i; after = g i }
 
 module _ (s : Setting) where
-  -- two trails of the same requests
-  same_trail : (b : Moment) (xs ys : List Made) → map (λ c. c.request) xs ≡ map (λ c. c.request) ys → Trail s b xs → Trail s b ys → xs ≡ ys
+  -- two trails of the same calls
+  same_trail : (b : Moment) (xs ys : List Made) → map (λ c. c.attempt) xs ≡ map (λ c. c.attempt) ys → Trail s b xs → Trail s b ys → xs ≡ ys
   same_trail b [] [] e v w = refl
   same_trail b [] (d ∷ ys) e v w = let z : ◌≡◌ {A = ℕ} 0 1 = cc in absurd (omega arith)
   same_trail b (c ∷ xs) [] e v w = let z : ◌≡◌ {A = ℕ} 0 1 = cc in absurd (omega arith)
   same_trail b (c ∷ xs) (d ∷ ys) e v w =
-      let first : c.request ≡ d.request = cc in
-      let others : map (λ c. c.request) xs ≡ map (λ c. c.request) ys = cc in
-      let w' = subst (λ (q : Request). Replied s b q d.reply d.after) (sym first) w.0 in
-      let one = one_reply s b c.request c.reply d.reply c.after d.after v.0 w' in
+      let first : c.attempt ≡ d.attempt = cc in
+      let others : map (λ c. c.attempt) xs ≡ map (λ c. c.attempt) ys = cc in
+      let w' = subst (λ (a : Attempt). Answered s b a.event a.place d.answer d.after) (sym first) w.0 in
+      let one = one_answer s b c.attempt.event c.attempt.place c.answer d.answer c.after d.after v.0 w' in
       let same = same_trail c.after xs ys others v.1 (subst (λ (a : Moment). Trail s a ys) (sym one.1) w.1) in
       let heads = made_is c d first one.0 one.1 in cc
 
-  some_trail : (b : Moment) (asked : List Request) → (calls : List Made) × (map (λ c. c.request) calls ≡ asked) × Trail s b calls
+  some_trail : (b : Moment) (asked : List Attempt) → (calls : List Made) × (map (λ c. c.attempt) calls ≡ asked) × Trail s b calls
   some_trail b [] = ([], refl, tt)
-  some_trail b (q ∷ rest) =
-      let w = some_reply s b q in
+  some_trail b (a ∷ rest) =
+      let w = some_answer s b a.event a.place in
       let t = some_trail w.1 rest in
-      (record { request = q; reply = w.0; after = w.1 } ∷ t.0, ap (λ xs. q ∷ xs) t.1, (w.2, t.2))
+      (record { attempt = a; answer = w.0; after = w.1 } ∷ t.0, ap (λ xs. a ∷ xs) t.1, (w.2, t.2))
 
 pub each_run : EachRun
 each_run s b asked =
     let t = some_trail s b asked in
     record { calls = t.0; asks = t.1; trail = t.2; only = λ ys e w. same_trail s b t.0 ys (t.1 ∙ sym e) t.2 w }
 
--- one request more
+-- one call more
 pub trail_more : (s : Setting) (b : Moment) (calls : List Made) (c : Made) → Trail s b calls
-    → Replied s (after_all b calls) c.request c.reply c.after → Trail s b (calls ++ c ∷ [])
+    → Answered s (after_all b calls) c.attempt.event c.attempt.place c.answer c.after → Trail s b (calls ++ c ∷ [])
 trail_more s b [] c w a = (a, tt)
 trail_more s b (d ∷ rest) c w a = (w.0, trail_more s d.after rest c w.1 a)
 

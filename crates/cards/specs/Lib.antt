@@ -2,10 +2,7 @@ pub mod States
 pub mod Faults
 pub mod Moments
 pub mod Answers
-pub mod Replies
 pub mod Cards
 pub mod Runs
 pub mod Issues
-pub mod Tiny
 pub mod FaultText
-pub mod ReplyText

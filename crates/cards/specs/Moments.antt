@@ -1,6 +1,6 @@
 -- Moments of a run: the state of every place and the facts on the board, and what the places, the book and the board fix between them.
-use Rattle.std.specs.Prelude.{◌≡◌, ℕ, ◌<◌, Bool, true, false, cond, ◌&&◌, ◌==◌, nat_lt}
-use Rattle.books.specs.Book.{Model, Facts, after}
+use Rattle.std.specs.Prelude.{◌≡◌, ℕ, ◌<◌, Bool, true, false, cond, not, ◌&&◌, ◌||◌, ◌==◌, nat_lt}
+use Rattle.books.specs.Book.{Model, Facts}
 use Rattle.plans.specs.Places.{Places}
 use Rattle.cards.specs.States.{finished as is_finished}
 use Rattle.cards.specs.declared.state.State.{State}
@@ -38,6 +38,7 @@ module _ (size : ℕ) (precedes : ℕ → ℕ → Bool) (finished : ℕ → Bool
     pub unfinished : finished u ≡ false
     pub lowest : (v : ℕ) → v < u → precedes v p ≡ true → finished v ≡ true
 
--- the facts on the board once the step of place p is done there, as far as the span goes
+-- the facts on the board once the step of place p is done there: its deletes are cleared, then its adds are put, below the span
 abbrev pub worked : Setting → Facts → ℕ → Facts
-worked s board p q = after s.book board (s.places.step p) q && nat_lt q s.span
+worked s board p q =
+    (board q && not (s.book.deletes (s.places.step p) q)) || (s.book.adds (s.places.step p) q && nat_lt q s.span)

@@ -1,5 +1,5 @@
 -- Runs: how things stand after an issue, and what holds at every moment from then on, whatever is called.
-use Rattle.std.specs.Prelude.{◌≡◌, ℕ, ◌<◌, ◌≤◌, false, ◌⊎◌, ◌↔◌, List, [], ◌∷◌, map, Ok, ◌≢◌}
+use Rattle.std.specs.Prelude.{◌≡◌, ℕ, ◌<◌, ◌≤◌, false, ◌⊎◌, ◌↔◌, List, [], ◌∷◌, map, Ok, Result, ◌≢◌}
 use Rattle.books.specs.Book.{Lawful}
 use Rattle.books.specs.Listed.{listed}
 use Rattle.plans.specs.Steps.{Disturb, Met}
@@ -9,27 +9,20 @@ use Rattle.task_sheets.specs.Content.{Task}
 use Rattle.checks.specs.Checked.{Checked}
 use Rattle.checks.specs.Tables.{Exact}
 use Rattle.cards.specs.Moments.{Setting, Moment, done}
-use Rattle.cards.specs.Answers.{Granted}
-use Rattle.cards.specs.Replies.{Replied, Rightly}
-use Rattle.cards.specs.declared.state.State.{State}
+use Rattle.cards.specs.Answers.{Granted, Answered}
 use Rattle.cards.specs.declared.state.State.TheVariants.{Waiting, InHand, Finished}
 use Rattle.cards.specs.declared.state.Event.TheVariants.{Begin, Finish}
-use Rattle.cards.specs.declared.request.Request.{Request}
-use Rattle.cards.specs.declared.request.Reply.{Reply}
+use Rattle.cards.specs.declared.state.Attempt.{Attempt}
+use Rattle.cards.specs.declared.fault.RunFault.{RunFault}
 
--- a card drawn up for a task: the plan is accepted, the board has room for all facts, the start facts are among them,
--- the places are the plan's picked order, precedence is exact, and every place waits
-pub record DrawnUp (s : Setting) (t : Task) (state : ℕ → State) : Type 0 where
+-- how things stand after the issue of a task: the plan is accepted, the places are its picked order, precedence is exact, every place waits,
+-- and the board, which has room for all facts, holds the start facts and no others
+pub record Issued (s : Setting) (t : Task) (b : Moment) : Type 0 where
   pub accepted : Checked s.book t (Ok tt)
   pub room : s.book.facts ≤ s.span
-  pub known : (q : ℕ) → s.book.facts ≤ q → listed t.start q ≡ false
   pub places : Arranged s.book t.levels s.places
   pub exact : Exact s.book s.places s.precedes
-  pub waiting : (u : ℕ) → state u ≡ Waiting
-
--- how things stand after the issue of a task: its card is drawn up, and the board holds the start facts and no others
-pub record Issued (s : Setting) (t : Task) (b : Moment) : Type 0 where
-  pub drawn : DrawnUp s t b.state
+  pub waiting : (u : ℕ) → b.state u ≡ Waiting
   pub start : (q : ℕ) → b.board q ≡ listed t.start q
 
 -- some place is unfinished
@@ -54,47 +47,47 @@ pub record Kept (s : Setting) (t : Task) (b : Moment) : Type 0 where
   -- when every place is finished, the board holds the plan's final facts
   pub final : ((p : ℕ) → p < s.places.size → b.state p ≡ Finished) → (q : ℕ) → b.board q ≡ finally s.book (listed t.start) t.levels q
 
--- a request that was made: what was asked, what was replied, and the moment after it
+-- a call that was made: what was asked, what was answered, and the moment after it
 pub record Made : Type 0 where
-  pub request : Request
-  pub reply : Reply
+  pub attempt : Attempt
+  pub answer : Result (Unit {0}) RunFault
   pub after : Moment
 
--- requests made one after the other from a moment on, granted or refused, each replied to upon the moment that the last one left
+-- calls made one after the other from a moment on, granted or refused, each answered upon the moment that the last one left
 abbrev pub Trail : Setting → Moment → List Made → Type 0
 Trail s b [] = Unit {0}
-Trail s b (c ∷ rest) = Replied s b c.request c.reply c.after × Trail s c.after rest
+Trail s b (c ∷ rest) = Answered s b c.attempt.event c.attempt.place c.answer c.after × Trail s c.after rest
 
 -- every moment on the way is such, the first and the last included
 abbrev pub Throughout : (Moment → Type 0) → Moment → List Made → Type 0
 Throughout P b [] = P b
 Throughout P b (c ∷ rest) = P b × Throughout P c.after rest
 
--- the moment after the last request
+-- the moment after the last call
 abbrev pub after_all : Moment → List Made → Moment
 after_all b [] = b
 after_all b (c ∷ rest) = after_all c.after rest
 
--- each request is replied to by the rule of its moment
+-- each call is granted exactly where the rule grants it
 abbrev pub ByRule : Setting → Moment → List Made → Type 0
 ByRule s b [] = Unit {0}
-ByRule s b (c ∷ rest) = Rightly s b c.request c.reply × ByRule s c.after rest
+ByRule s b (c ∷ rest) = ((c.answer ≡ Ok tt) ↔ Granted s b c.attempt.event c.attempt.place) × ByRule s c.after rest
 
 -- what holds of a run from a moment on
 pub record RunKept (s : Setting) (t : Task) (b : Moment) (calls : List Made) : Type 0 where
   pub kept : Throughout (Kept s t) b calls
   pub granted : ByRule s b calls
 
--- the law of runs: however the places of an accepted plan are begun, finished, put back and looked at after its issue
+-- the law of runs: however the places of an accepted plan are begun, finished and put back after its issue
 abbrev pub RunLaw : Type 0
 RunLaw = (s : Setting) → Lawful s.book → (t : Task) (b : Moment) → Issued s t b → (calls : List Made) → Trail s b calls → RunKept s t b calls
 
 -- whatever is asked, in whatever order, leaves one trail and no other
-pub record OneTrail (s : Setting) (b : Moment) (asked : List Request) : Type 0 where
+pub record OneTrail (s : Setting) (b : Moment) (asked : List Attempt) : Type 0 where
   pub calls : List Made
-  pub asks : map (λ c. c.request) calls ≡ asked
+  pub asks : map (λ c. c.attempt) calls ≡ asked
   pub trail : Trail s b calls
-  pub only : (calls' : List Made) → map (λ c. c.request) calls' ≡ asked → Trail s b calls' → calls ≡ calls'
+  pub only : (calls' : List Made) → map (λ c. c.attempt) calls' ≡ asked → Trail s b calls' → calls ≡ calls'
 
 abbrev pub EachRun : Type 0
-EachRun = (s : Setting) (b : Moment) (asked : List Request) → OneTrail s b asked
+EachRun = (s : Setting) (b : Moment) (asked : List Attempt) → OneTrail s b asked

@@ -1,10 +1,8 @@
 pub mod Marks
 pub mod Filling
 pub mod Answers
-pub mod Sheets
 pub mod Shared
 pub mod TaskLists
 pub mod Passing
 pub mod Levels
 pub mod Turns
-pub mod Arrangements

@@ -1,19 +1,21 @@
 -- The levels of a plan, passed one after the other.
-use Rattle.std.proofs.Common.{◌≡◌, ℕ, zero, suc, ◌+◌, ◌-◌, ◌<◌, ◌≤◌, true, List, [], ◌∷◌, ◌++◌, length, get_or, take, drop, Err, sym, ap, ◌∙◌, subst, inl, inr, add-one, arith}
+use Rattle.std.proofs.Common.{◌≡◌, ℕ, zero, suc, ◌+◌, ◌-◌, ◌<◌, ◌≤◌, Bool, true, false, not, ◌&&◌, ◌⊎◌, List, [], ◌∷◌, ◌++◌, length, get_or, take, drop, Ok, Err, sym, refl, ap, ◌∙◌, subst, inl, inr, add-one, arith}
 use mathlib.Core.Path.{fun_ext}
-use Rattle.std.specs.List.{HoldsAt}
+use Rattle.std.specs.List.{ContainsAt as Has, HoldsAt, AllByRecursion as All}
 use Rattle.std.proofs.lemmas.List.{take_more, take_all, drop_more, length-drop, length-take-le}
 use Rattle.std.proofs.ByRecursion.{All-from_get_or, All-get_or}
 use Rattle.std.proofs.lemmas.List.Sorted.{length_permutation}
 use Rattle.std.proofs.lemmas.Bool.{cases_lt}
-use Rattle.facts.specs.Sets.{holds}
+use Rattle.facts.specs.Sets.{holds, First}
 use Rattle.books.specs.Book.{Model, Facts}
 use Rattle.books.specs.Gathered.{Gathers}
 use Rattle.books.specs.Listed.{listed}
-use Rattle.plans.specs.Steps.{passed}
-use Rattle.plans.specs.Plans.{Recognized, Accepted, finally}
+use Rattle.books.specs.declared.step_facts.StepFacts.{StepFacts}
+use Rattle.plans.specs.Steps.{Met, passed}
+use Rattle.plans.specs.Plans.{Authorized, Recognized, Accepted, finally}
 use Rattle.plans.specs.Plans as plans
-use Rattle.plans.specs.Places.{Stands, Arranged}
+use Rattle.plans.specs.Order.{Picked}
+use Rattle.plans.specs.Places.{Places, Stands, Arranged}
 use Rattle.plans.proofs.Arranging.{Agree, arranged_none, arranged_more}
 use Rattle.plans.proofs.Picks.{turning}
 use Rattle.sheets.specs.Lists.{Ascending}
@@ -24,12 +26,11 @@ use Rattle.checks.specs.declared.fault.PlanFault.{PlanFault}
 use Rattle.checks.specs.declared.fault.PlanFault.TheVariants.{Sheet, Mismatch, NeedMissing, NoOrder, GoalMissing}
 use Rattle.checks.specs.declared.draft.Draft.{Draft}
 use Rattle.checks.specs.Tables.{blank}
-use Rattle.checks.specs.Checked.{Matches, facts_after_levels, RefusedAt, Checked, EndsIn, Reached}
+use Rattle.checks.specs.Checked.{Matches, PassTo, facts_after_levels, Checked, EndsIn, Reached}
 use Rattle.checks.specs.Drafts.{places_of, Filled, Drafted, PlanDrafted}
-use Rattle.checks.specs.Levels.{Grown, LevelPassed}
-use Rattle.checks.specs.Refused.{FirstMissing, LevelRefused}
+use Rattle.checks.specs.Levels.{Grown, LevelPassed, LacksNeed, LevelRefused}
 
-pub total_push : (plan : List (List ℕ)) (xs : List ℕ) → total (plan ++ xs ∷ []) ≡ total plan + length xs
+total_push : (plan : List (List ℕ)) (xs : List ℕ) → total (plan ++ xs ∷ []) ≡ total plan + length xs
 total_push [] xs = omega arith
 total_push (ys ∷ plan) xs = omega (arith, total_push plan xs)
 
@@ -133,19 +134,26 @@ module _ (m : Model) (t : Task) (k : ℕ) (words : List ℕ) (d : Draft) (h : Dr
           filled = grown_filled m p.order k d d' p.grown h.filled;
         }
 
-  refused_at : (f : PlanFault) → LevelRefused m (holds words) xs (k + 1) f → RefusedAt m t k f
-  refused_at f r = record {
-    there = l;
-    reached = h.passed;
-    refused = subst (λ n. LevelRefused m (facts_after_levels m t k) (get_or t.levels k []) n f) (add-one k)
-        (subst (λ ys. LevelRefused m (facts_after_levels m t k) ys (k + 1) f) (sym e) (subst (λ E. LevelRefused m E xs (k + 1) f) same_facts r));
-  }
-
   pub level_refused : Matches m t → (f : PlanFault) → LevelRefused m (holds words) xs (k + 1) f → Checked m t (Err f)
   level_refused ok (Sheet f) r = r
   level_refused ok Mismatch r = absurd r
-  level_refused ok (NeedMissing n a p) r = (ok, (k, refused_at (NeedMissing n a p) r))
-  level_refused ok (NoOrder n) r = (ok, (k, refused_at (NoOrder n) r))
+  level_refused ok (NeedMissing n a p) r =
+      let s = subst (λ E. LacksNeed m E xs a p) same_facts r.1 in
+      let o = subst (λ ys. LacksNeed m (facts_after_levels m t k) ys a p) (sym e) s in
+      (ok, (k, r.0 ∙ add-one k, record { there = l; reached = h.passed; has = o.has; lacking = o.lacking; smaller = o.smaller }))
+  level_refused ok (NoOrder n) r = (
+    ok,
+    (
+      k,
+      r.0 ∙ add-one k,
+      record {
+        there = l;
+        reached = h.passed;
+        met = subst (λ E. All (Met m E) (get_or t.levels k [])) same_facts (subst (All (Met m (holds words))) (sym e) r.1);
+        stuck = λ a. r.2 (subst (Authorized m) e a);
+      },
+    ),
+  )
   level_refused ok (GoalMissing p) r = absurd r
 
 -- all levels have passed
@@ -195,7 +203,7 @@ module _ (m : Model) (t : Task) (words : List ℕ) (d : Draft) (h : Drafted m t 
   goal_missed ok Mismatch r = absurd r
   goal_missed ok (NeedMissing n a p) r = absurd r
   goal_missed ok (NoOrder n) r = absurd r
-  goal_missed ok (GoalMissing p) r = (ok, record { passed = all_recognized; missing = subst (λ (E : Facts). FirstMissing (listed t.goal) E p) same_end r })
+  goal_missed ok (GoalMissing p) r = (ok, record { passed = all_recognized; missing = subst (λ (E : Facts). First (λ q. listed t.goal q && not (E q)) p) same_end r })
 
   pub goal_reached : ((p : ℕ) → listed t.goal p ≡ true → holds words p ≡ true) → Accepted m (listed t.start) (listed t.goal) t.levels
   goal_reached r = record { recognized = all_recognized; reached = λ p g. sym (all_ends p) ∙ r p g }

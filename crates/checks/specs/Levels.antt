@@ -1,13 +1,16 @@
 -- Passing one level of a plan.
-use Rattle.std.specs.Prelude.{◌≡◌, ℕ, ◌+◌, ◌<◌, true, false, ◌&&◌, List, length, Decides, slice_index, slice_index_or}
-use Rattle.std.specs.List.{HoldsAt, AllByRecursion as All}
-use Rattle.facts.specs.Sets.{holds}
+use Rattle.std.specs.Prelude.{◌≡◌, ℕ, ◌+◌, ◌<◌, Bool, true, false, not, ◌&&◌, List, [], ◌∷◌, length, Ok, Err, Decides, Result, slice_index, slice_index_or}
+use Rattle.std.specs.List.{ContainsAt as Has, HoldsAt, AllByRecursion as All}
+use Rattle.facts.specs.Sets.{holds, First}
 use Rattle.facts.specs.declared.NumberSet.{NumberSet}
 use Rattle.books.specs.Book.{Model, Facts}
 use Rattle.books.specs.Gathered.{Gathers}
 use Rattle.books.specs.declared.step_facts.StepFacts.{StepFacts}
 use Rattle.plans.specs.Steps.{Met, passed}
+use Rattle.plans.specs.Plans.{Authorized}
 use Rattle.plans.specs.Order.{Before, Picked}
+use Rattle.checks.specs.declared.fault.PlanFault.{PlanFault}
+use Rattle.checks.specs.declared.fault.PlanFault.TheVariants.{Sheet, Mismatch, NeedMissing, NoOrder, GoalMissing}
 use Rattle.checks.specs.declared.draft.Draft.{Draft}
 use Rattle.checks.specs.Tables.{blank}
 
@@ -37,6 +40,20 @@ pub record Grown (m : Model) (bs : List ℕ) (number : ℕ) (old new : Draft) : 
   pub facts : (k : ℕ) → k < length bs → HoldsAt (Gathers m (slice_index bs k)) new.facts (old.count + k)
 
 module _ (m : Model) (E : Facts) (xs : List ℕ) where
+  -- a is the smallest step of xs that lacks a need, and p the smallest fact that it lacks
+  pub record LacksNeed (a p : ℕ) : Type 0 where
+    pub has : Has xs a
+    pub lacking : First (λ q. m.needs a q && not (E q)) p
+    pub smaller : (b : ℕ) → Has xs b → b < a → Met m E b
+
+  -- why the level xs does not pass from the facts E on; its number is named
+  abbrev pub LevelRefused : ℕ → PlanFault → Type 0
+  LevelRefused number (Sheet f) = ⊥
+  LevelRefused number Mismatch = ⊥
+  LevelRefused number (NeedMissing n a p) = (n ≡ number) × LacksNeed a p
+  LevelRefused number (NoOrder n) = (n ≡ number) × All (Met m E) xs × (Authorized m xs → ⊥)
+  LevelRefused number (GoalMissing p) = ⊥
+
   -- the level passes and leaves these facts, and the draft has grown by its picked order
   pub record LevelPassed (number : ℕ) (words : List ℕ) (old new : Draft) : Type 0 where
     pub met : All (Met m E) xs

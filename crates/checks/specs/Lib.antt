@@ -1,5 +1,4 @@
 pub mod Faults
-pub mod Refused
 pub mod Checked
 pub mod Rows
 pub mod Tables

@@ -1,5 +1,5 @@
 -- Places and the table of precedence, as a program holds them.
-use Rattle.std.specs.Prelude.{ℕ, ◌-◌, ◌<◌, Bool, List, Decides, slice_index_or}
+use Rattle.std.specs.Prelude.{◌≡◌, ℕ, ◌-◌, ◌<◌, Bool, true, List, slice_index_or}
 use Rattle.books.specs.Book.{Model}
 use Rattle.plans.specs.Places.{Places, Precedes}
 use Rattle.checks.specs.declared.arrangement.Place.{Place}
@@ -18,4 +18,5 @@ places_in count places = record {
 
 -- the table is the relation, for all places
 abbrev pub Exact : Model → Places → (ℕ → ℕ → Bool) → Type 0
-Exact m o before = (u v : ℕ) → u < o.size → v < o.size → Decides (before u v) (Precedes m o u v)
+Exact m o before =
+    (u v : ℕ) → u < o.size → v < o.size → (before u v ≡ true → Precedes m o u v) × (Precedes m o u v → before u v ≡ true)

@@ -1,5 +1,5 @@
 ghost use Rattle.std.specs.Prelude.{◌≡◌};
-ghost use Rattle.checks.specs.Faults.{plan_notice, Numbering};
+ghost use Rattle.checks.specs.Faults.{plan_number};
 ghost use Rattle.checks.specs.declared.fault.PlanFault.TheVariants.{Sheet as of_sheet};
 
 use sheets::SheetFault;
@@ -30,23 +30,16 @@ pub enum PlanFault {
 impl PlanFault {
     // The refusal's number on the list of all refusals.
     pub fn number(&self) -> u8
-        ensures { result ≡ (plan_notice self.now).number }
+        ensures { result ≡ plan_number self.now }
     {
         match self {
-            PlanFault::Sheet(fault) => fault.number(),
+            PlanFault::Sheet(fault) => fault.refusal.number(),
             PlanFault::Mismatch => 10,
             PlanFault::NeedMissing { .. } => 11,
             PlanFault::NoOrder { .. } => 12,
             PlanFault::GoalMissing { .. } => 13,
         }
     }
-}
-
-// Every fault stands on the list of refusals.
-pub fn every_fault_is_listed() -> u8
-    ensures { Numbering }
-{
-    0
 }
 
 // A sheet's fault is a plan's fault, whole.

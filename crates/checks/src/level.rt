@@ -1,12 +1,11 @@
 ghost use Rattle.std.specs.Prelude.{◌≡◌, ℕ, ◌+◌, ◌<◌, ◌≤◌, false, not, ◌&&◌, ◌||◌, List, length, Decides, MatchBool, MatchOption, MatchResult, nat_lt, slice_index};
 ghost use Rattle.std.specs.List.{AllByRecursion as All};
-ghost use Rattle.facts.specs.Sets.{holds};
+ghost use Rattle.facts.specs.Sets.{holds, First};
 ghost use Rattle.books.specs.Book.{Model};
 ghost use Rattle.plans.specs.Steps.{Met, passed};
 ghost use Rattle.plans.specs.Plans.{Ascending, Authorized};
 ghost use Rattle.plans.specs.Order.{Before, Picked};
-ghost use Rattle.checks.specs.Levels.{Tabled, RowAt, Rowed, ReadyAt, Grown, LevelPassed};
-ghost use Rattle.checks.specs.Refused.{FirstMissing, LevelRefused};
+ghost use Rattle.checks.specs.Levels.{Tabled, RowAt, Rowed, ReadyAt, Grown, LevelRefused, LevelPassed};
 
 use crate::arrangement::Place;
 use crate::authorize::authorizes;
@@ -17,7 +16,7 @@ use facts::{FactSet, PlaceSet};
 
 // The first fact that a step needs and that is missing in `facts`.
 fn first_missing(step: &StepFacts, facts: &FactSet) -> Option<usize>
-    ensures { MatchOption result ((q : ℕ) → (holds step.now.needs.words q && not (holds facts.now.words q)) ≡ false) (FirstMissing (holds step.now.needs.words) (holds facts.now.words)) }
+    ensures { MatchOption result ((q : ℕ) → (holds step.now.needs.words q && not (holds facts.now.words q)) ≡ false) (First (λ q. holds step.now.needs.words q && not (holds facts.now.words q))) }
 {
     step.needs.first_outside(facts)
 }

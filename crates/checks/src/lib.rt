@@ -7,10 +7,9 @@ pub mod fault;
 pub mod fault_text;
 mod level;
 pub mod opening;
-pub mod reading;
+mod reading;
 
 pub use arrangement::{Arrangement, Place};
 pub use checking::{arrange, check};
 pub use fault::PlanFault;
 pub use opening::check_bytes;
-pub use reading::part_set;

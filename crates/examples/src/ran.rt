@@ -1,16 +1,21 @@
 // Cards issued, begun, finished and put back, on the rack of 2 loggers and 1 bath.
-use crate::given::{SIDE_BY_SIDE, TWO_LEVELS};
 use boards::{BitBoard, Board, TallyBoard};
 use book_sheets::BookSheet;
-use cards::{
-    Attempt, Card, Event, Reply, Request, Run, RunFault, State, begin, finish, issue, put_back,
-    reply,
-};
+use cards::{Card, RunFault, begin, finish, issue, put_back};
 use racks::Rack;
 use std::process::Abort;
 use std::test::Fail;
 use task_sheets::TaskSheet;
 
+// Start 2, 3; goal 5; levels 0, 6 and 1, 4.
+const TWO_LEVELS: &[u8; 42] = b"\
+    \x00\x07\x00\x07\x00\x02\x00\x04\x00\x00\x00\x14\x00\x00\x00\x1a\x00\x00\x00\x1e\
+    \x00\x02\x00\x02\x00\x03\x00\x01\x00\x05\x00\x02\x00\x00\x00\x06\x00\x02\x00\x01\
+    \x00\x04";
+// Start 2, 3; no goal; levels 0 and 1.
+const SIDE_BY_SIDE: &[u8; 36] = b"\
+    \x00\x07\x00\x07\x00\x02\x00\x02\x00\x00\x00\x14\x00\x00\x00\x1a\x00\x00\x00\x1c\
+    \x00\x02\x00\x02\x00\x03\x00\x00\x00\x01\x00\x00\x00\x01\x00\x01";
 // A book of 513 facts and no steps, and a task for it without levels.
 const WIDE: &[u8; 12] = b"\
     \x02\x01\x00\x00\x00\x00\x00\x0c\x00\x00\x00\x0c";
@@ -87,41 +92,6 @@ fn two_in_hand_finish_in_either_order(rt: HostRuntime) -> Result<(), Fail> {
     holds(&rt, &board, b"01");
     assert_eq!(rt; issue(&rack, &mut board, &mut card, &task), Ok(()));
     holds(&rt, &board, b"23");
-    Ok(())
-}
-
-#[test]
-fn a_run_hands_board_and_card_back(rt: HostRuntime) -> Result<(), Fail> {
-    let rack = Rack::new(2, 1)?;
-    let mut task = TaskSheet::new();
-    assert!(rt; task.open(SIDE_BY_SIDE).is_ok());
-    let mut board = BitBoard::new();
-    let mut card = Card::new();
-    let mut run = Run::new(&rack, &mut board, &mut card);
-    assert_eq!(rt; run.issue(&task), Ok(()));
-    assert_eq!(rt; run.begin(0), Ok(()));
-    assert_eq!(rt; run.begin(1), Ok(()));
-    assert_eq!(rt; run.look(1), Ok((1, 2, State::InHand)));
-    assert_eq!(rt; run.look(2), Err(RunFault::NoPlace));
-    assert_eq!(rt; run.finish(1), Ok(()));
-    assert_eq!(rt; run.put_back(0), Ok(()));
-    drop(run);
-    holds(&rt, &board, b"12");
-    let seen = Reply::Seen {
-        step: 1,
-        level: 2,
-        state: State::Finished,
-    };
-    assert_eq!(rt; reply(&rack, &mut board, &mut card, Request::Look(1)), seen);
-    let again = Request::Call(Attempt {
-        event: Event::Begin,
-        place: 0,
-    });
-    assert_eq!(rt; reply(&rack, &mut board, &mut card, again), Reply::Granted);
-    assert_eq!(rt;
-        reply(&rack, &mut board, &mut card, again),
-        Reply::Refused(RunFault::WrongState)
-    );
     Ok(())
 }
 

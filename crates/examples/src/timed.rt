@@ -1,5 +1,4 @@
 // Timetables of cards on the rack of 2 loggers and 1 bath.
-use crate::given::{SIDE_BY_SIDE, TWO_LEVELS};
 use boards::BitBoard;
 use cards::{Card, issue};
 use racks::Rack;
@@ -8,6 +7,16 @@ use std::process::Abort;
 use std::test::Fail;
 use task_sheets::TaskSheet;
 use timetables::{Measure, Seconds, StepCount, strata, timetable};
+
+// Start 2, 3; goal 5; levels 0, 6 and 1, 4.
+const TWO_LEVELS: &[u8; 42] = b"\
+    \x00\x07\x00\x07\x00\x02\x00\x04\x00\x00\x00\x14\x00\x00\x00\x1a\x00\x00\x00\x1e\
+    \x00\x02\x00\x02\x00\x03\x00\x01\x00\x05\x00\x02\x00\x00\x00\x06\x00\x02\x00\x01\
+    \x00\x04";
+// Start 2, 3; no goal; levels 0 and 1.
+const SIDE_BY_SIDE: &[u8; 36] = b"\
+    \x00\x07\x00\x07\x00\x02\x00\x02\x00\x00\x00\x14\x00\x00\x00\x1a\x00\x00\x00\x1c\
+    \x00\x02\x00\x02\x00\x03\x00\x00\x00\x01\x00\x00\x00\x01\x00\x01";
 
 // The card of a task of the rack, newly issued.
 fn issued(rt: &impl Abort, bytes: &[u8]) -> Result<Card, Fail> {

@@ -64,9 +64,9 @@ Ascent = (m : Model) (plan : List (List ℕ)) (o : Places) → Arranged m plan o
 abbrev pub Laying : Type 0
 Laying = (m : Model) (plan : List (List ℕ)) (o : Places) → Arranged m plan o → Lays o o.level plan
 
--- a plan can be arranged exactly where its levels are authorized
+-- a plan of authorized levels can be arranged
 abbrev pub Arranging : Type 0
-Arranging = (m : Model) → Lawful m → (plan : List (List ℕ)) → All (Authorized m) plan ↔ ((o : Places) × Arranged m plan o)
+Arranging = (m : Model) → Lawful m → (plan : List (List ℕ)) → All (Authorized m) plan → (o : Places) × Arranged m plan o
 
 -- as many places, with the same steps and levels
 pub record Alike (o o' : Places) : Type 0 where

@@ -80,7 +80,7 @@ pub fn levels_are_their_places() -> u8
     0
 }
 
-// A plan can be arranged exactly where its levels are authorized.
+// A plan of authorized levels can be arranged.
 pub fn authorized_plans_can_be_arranged() -> u8
     ensures { Arranging }
 {

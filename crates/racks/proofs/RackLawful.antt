@@ -1,5 +1,5 @@
 -- Proof that the book of a rack is lawful.
-use Rattle.std.proofs.Common.{◌≡◌, ℕ, ◌*◌, ◌<◌, ◌≤◌, true, false, ◌&&◌, ltb, List, [], ◌∷◌, length, Some, None, Option, sym, refl, ap, ⊎_elim, arith, MatchOption}
+use Rattle.std.proofs.Common.{◌≡◌, ℕ, ◌*◌, ◌<◌, ◌≤◌, true, false, ◌&&◌, ltb, List, [], ◌∷◌, length, Some, None, Option, refl, ⊎_elim, arith, MatchOption}
 use Rattle.std.specs.List.{AllByRecursion as All}
 use Rattle.std.proofs.lemmas.Bool.{ne_eqb, or_from, and_left, and_right, and_parts, cases_lt}
 use Rattle.racks.specs.declared.rack_names.RackFact.{RackFact}
@@ -9,12 +9,19 @@ use Rattle.books.specs.Book.{StepSets, Lawful, count}
 use Rattle.books.specs.Listed.{listed}
 use Rattle.racks.specs.Rack.{needs_of, adds_of, deletes_of, fact_on, step_on, rack_fact_number, rack_step_number, count_of_facts, count_of_steps, step_at, numbers, set_as_words, time_of, rack_model}
 use Rattle.books.proofs.Counts.{count_none, count_entries}
-use Rattle.racks.proofs.RackNumbers.{at_step, fact_below, pair_below}
-use Rattle.racks.proofs.RackLaws.{no_step_at}
+use Rattle.racks.proofs.RackNumbers.{at_step, step_below, fact_below, pair_below}
 
 -- the step with number a, or none past the steps
 abbrev Numbered : (R B a : ℕ) → Option RackStep → Type 0
 Numbered R B a o = MatchOption o (count_of_steps R B ≤ a) (λ s. (step_on R B s ≡ true) × (rack_step_number R B s ≡ a))
+
+past_none : (R B a : ℕ) (of : RackStep → List RackFact) (o : Option RackStep) → Numbered R B a o → count_of_steps R B ≤ a → (p : ℕ) → set_as_words R B of o p ≡ false
+past_none R B a of None h past p = refl
+past_none R B a of (Some s) h past p = absurd (omega (arith, step_below R B s h.0, h.1))
+
+past_time : (R B a : ℕ) (o : Option RackStep) → Numbered R B a o → count_of_steps R B ≤ a → time_of o ≡ 0
+past_time R B a None h past = refl
+past_time R B a (Some s) h past = absurd (omega (arith, step_below R B s h.0, h.1))
 
 -- facts on the rack have numbers below the number of facts
 not_listed : (R B p : ℕ) (fs : List RackFact) → All (λ f. fact_on R B f ≡ true) fs → count_of_facts R B ≤ p → listed (numbers R B fs) p ≡ false
@@ -38,7 +45,7 @@ sets : (R B : ℕ) (of : RackStep → List RackFact) → 1 ≤ B →
     ((s : RackStep) → length (numbers R B (of s)) ≤ 2) →
     StepSets (count_of_facts R B) (count_of_steps R B) (λ a. set_as_words R B of (step_at R B a))
 sets R B of bath on few = record {
-  no_step = λ a p past. ap (λ o. set_as_words R B of o p) (sym (no_step_at R B a bath past));
+  no_step = λ a p past. past_none R B a of (step_at R B a) (at_step R B a bath) past p;
   no_fact = λ a p past. past_fact R B a p of on (step_at R B a) (at_step R B a bath) past;
   few = λ a. few_facts R B (count_of_facts R B) of few (step_at R B a);
 }
@@ -117,5 +124,5 @@ rack_lawful R B bath pairs loggers baths = record {
   deletes = sets R B deletes_of bath (deletes_on R B) (deletes_few R B);
   apart = λ a p. apart R B a p (step_at R B a) (at_step R B a bath);
   short = λ a. short (step_at R B a);
-  no_time = λ a past. ap time_of (sym (no_step_at R B a bath past));
+  no_time = λ a past. past_time R B a (step_at R B a) (at_step R B a bath) past;
 }

@@ -1,5 +1,5 @@
 -- What each step of a rack needs, adds and deletes.
-use Rattle.std.proofs.Common.{◌≡◌, ℕ, ◌<◌, ◌≤◌, Bool, true, ◌&&◌, ltb, Some, None, Option, refl, ap, subst, arith, MatchOption}
+use Rattle.std.proofs.Common.{◌≡◌, ℕ, ◌<◌, ◌≤◌, true, ◌&&◌, ltb, Some, None, Option, refl, ap, subst, arith, MatchOption}
 use Rattle.std.proofs.lemmas.Bool.{lt-ltb, and_from}
 use Rattle.racks.specs.declared.rack_names.RackFact.{RackFact}
 use Rattle.racks.specs.declared.rack_names.RackStep.{RackStep}
@@ -42,13 +42,18 @@ pub fact_here : (R B p : ℕ) (f : RackFact) → fact_on R B f ≡ true → rack
 fact_here R B p f e n = subst (λ m. FactNumbered R B f m) n (fact_numbered R B f e)
 
 -- nothing past the end
-module _ {X : Type 0} (there : X → Bool) (number : X → ℕ) (size n : ℕ) (below : (x : X) → there x ≡ true → number x < size) where
-  none_past : (o : Option X) → MatchOption o (size ≤ n) (λ x. (there x ≡ true) × (number x ≡ n)) → size ≤ n → None ≡ o
-  none_past None h past = refl
-  none_past (Some x) h past = absurd (omega (arith, below x h.0, h.1))
+none_step : (R B a : ℕ) (o : Option RackStep) → MatchOption o (count_of_steps R B ≤ a) (λ s. (step_on R B s ≡ true) × (rack_step_number R B s ≡ a)) →
+    count_of_steps R B ≤ a → None ≡ o
+none_step R B a None h past = refl
+none_step R B a (Some s) h past = absurd (omega (arith, step_below R B s h.0, h.1))
 
 pub no_step_at : (R B a : ℕ) → 1 ≤ B → count_of_steps R B ≤ a → None ≡ step_at R B a
-no_step_at R B a bath past = none_past (step_on R B) (rack_step_number R B) (count_of_steps R B) a (step_below R B) (step_at R B a) (at_step R B a bath) past
+no_step_at R B a bath past = none_step R B a (step_at R B a) (at_step R B a bath) past
+
+none_fact : (R B p : ℕ) (o : Option RackFact) → MatchOption o (count_of_facts R B ≤ p) (λ f. (fact_on R B f ≡ true) × (rack_fact_number R B f ≡ p)) →
+    count_of_facts R B ≤ p → None ≡ o
+none_fact R B p None h past = refl
+none_fact R B p (Some f) h past = absurd (omega (arith, fact_below R B f h.0, h.1))
 
 pub no_fact_at : (R B p : ℕ) → 1 ≤ B → count_of_facts R B ≤ p → None ≡ fact_at R B p
-no_fact_at R B p bath past = none_past (fact_on R B) (rack_fact_number R B) (count_of_facts R B) p (fact_below R B) (fact_at R B p) (at_fact R B p bath) past
+no_fact_at R B p bath past = none_fact R B p (fact_at R B p) (at_fact R B p bath) past

@@ -1,12 +1,11 @@
 -- The refusal of a rack: its number and the values that it names.
-use Rattle.std.specs.Prelude.{[]}
-use Rattle.refusals.specs.Notices.{Notice, Listed}
+use Rattle.std.specs.Prelude.{ℕ, List, []}
 use Rattle.racks.specs.declared.rack_fault.RackFault.{RackFault}
 use Rattle.racks.specs.declared.rack_fault.RackFault.TheVariants.{NoSuchRack}
 
-abbrev pub rack_notice : RackFault → Notice
-rack_notice NoSuchRack = record { number = 20; values = [] }
+pub record Refusal : Type 0 where
+  pub number : ℕ
+  pub values : List ℕ
 
--- the fault stands on the list of refusals
-abbrev pub Numbering : Type 0
-Numbering = (f : RackFault) → Listed (rack_notice f)
+abbrev pub refusal_of : RackFault → Refusal
+refusal_of NoSuchRack = record { number = 20; values = [] }

@@ -1,5 +1,5 @@
 ghost use Rattle.std.specs.Prelude.{◌≡◌};
-ghost use Rattle.racks.specs.RackFault.{rack_notice, Numbering};
+ghost use Rattle.racks.specs.RackFault.{refusal_of};
 
 // Why there is no rack.
 #[derive(Clone, Copy, PartialEq, Eq, Debug)]
@@ -11,17 +11,10 @@ pub enum RackFault {
 impl RackFault {
     // The number of the refusal.
     pub fn number(&self) -> u8
-        ensures { result ≡ (rack_notice self.now).number }
+        ensures { result ≡ (refusal_of self.now).number }
     {
         match self {
             RackFault::NoSuchRack => 20,
         }
     }
-}
-
-// The fault stands on the list of refusals.
-pub fn the_fault_is_listed() -> u8
-    ensures { Numbering }
-{
-    0
 }

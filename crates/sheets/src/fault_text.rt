@@ -9,7 +9,7 @@ impl fmt::Display for SheetFault {
     ghost output = { λ f. Some (text_of_fault f) };
 
     fn fmt<W: fmt::Write>(&self, f: &mut fmt::Formatter<W>) -> fmt::Result {
-        let number = self.number();
+        let number = self.refusal.number();
         let place = self.place;
         write!(f, "refused {number} at byte {place}")
     }

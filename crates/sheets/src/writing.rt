@@ -1,5 +1,5 @@
 ghost use Rattle.std.specs.Prelude.{◌≡◌, ◌+◌, ◌≤◌, [], ◌∷◌, length};
-ghost use Rattle.sheets.specs.Faults.{short_notice};
+ghost use Rattle.sheets.specs.Faults.{too_short_number};
 ghost use Rattle.sheets.specs.Fields.{two, four};
 ghost use Rattle.sheets.specs.Writing.{Wrote};
 
@@ -12,7 +12,7 @@ pub struct TooShort {
 impl TooShort {
     // The refusal's number on the list of all refusals.
     pub fn number(&self) -> u8
-        ensures { result ≡ (short_notice self.now).number }
+        ensures { result ≡ too_short_number }
     {
         19
     }

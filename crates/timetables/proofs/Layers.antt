@@ -26,8 +26,8 @@ module _ (size : ℕ) (precedes : ℕ → ℕ → Bool) (upward : (u v : ℕ) �
   next : (v : ℕ) → v < size → (sum step_scale weight begin v).count ≡ (begin v).count + 1
   next v h = omega (arith, all_below size (omega arith) v h, one v h)
 
-  climbs : (u v : ℕ) → u < size → v < size → precedes u v ≡ true → (begin u).count < (begin v).count
-  climbs u v k l h = omega (arith, leb-true _ _ (t.keeps u v k l h), next u k)
+  climbs : (u v : ℕ) → precedes u v ≡ true → (begin u).count < (begin v).count
+  climbs u v h = let up = upward u v h in omega (arith, leb-true _ _ (t.keeps u v h), next u (omega (arith, up)))
 
   low : (v : ℕ) → v < size → ((begin v).count ≡ 0) ⊎ ((u : ℕ) × (u < size) × (precedes u v ≡ true) × ((begin v).count ≡ (begin u).count + 1))
   low v h =

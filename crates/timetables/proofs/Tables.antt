@@ -43,15 +43,15 @@ module _ {M : Type 0} {s : Scale M} (laws : Laws s) (precedes : ℕ → ℕ → 
       }
 
   module _ (size : ℕ) (upward : (u v : ℕ) → precedes u v ≡ true → (u < v) × (v < size)) (before begins : List M) (end : M) (f : SoFar s precedes weights before begins size end) where
-    keeps_here : Keeps s size precedes (by_place s weights) (by_place s begins)
-    keeps_here u v k l h = (f.begun v l).bound u (upward u v h).0 h
+    keeps_here : Keeps s precedes (by_place s weights) (by_place s begins)
+    keeps_here u v h = (f.begun v (upward u v h).1).bound u (upward u v h).0 h
 
-    module _ (others : ℕ → M) (kept : Keeps s size precedes (by_place s weights) others) where
+    module _ (others : ℕ → M) (kept : Keeps s precedes (by_place s weights) others) where
       -- a place begins no later than in others, if the lower places do
       least_at : (v : ℕ) → v < size → ((u : ℕ) → u < v → s.within (by_place s begins u) (others u) ≡ true) → s.within (by_place s begins v) (others v) ≡ true
       least_at v h below =
           greatest_within laws (λ u. precedes u v) _ v _ (others v) (f.begun v h)
-          (λ u k t. laws.transitive _ _ _ (laws.keeps _ _ (by_place s weights u) (below u k)) (kept u v (omega arith) h t))
+          (λ u k t. laws.transitive _ _ _ (laws.keeps _ _ (by_place s weights u) (below u k)) (kept u v t))
 
       least_below : (n : ℕ) → n ≤ size → (v : ℕ) → v < n → s.within (by_place s begins v) (others v) ≡ true
       least_below zero le v h = absurd (omega arith)

@@ -8,7 +8,7 @@ use Rattle.timetables.specs.declared.step_count.StepCount.{StepCount}
 -- the stratum of each place, and the number of strata
 pub record Strata (size : ℕ) (precedes : ℕ → ℕ → Bool) (stratum : ℕ → ℕ) (count : ℕ) : Type 0 where
   -- a preceding place has a smaller stratum
-  pub climbs : (u v : ℕ) → u < size → v < size → precedes u v ≡ true → stratum u < stratum v
+  pub climbs : (u v : ℕ) → precedes u v ≡ true → stratum u < stratum v
   -- a stratum is 0 or one more than that of some preceding place
   pub low : (v : ℕ) → v < size → (stratum v ≡ 0) ⊎ ((u : ℕ) × (u < size) × (precedes u v ≡ true) × (stratum v ≡ stratum u + 1))
   -- the strata are the numbers below their number, which is at most the number of places

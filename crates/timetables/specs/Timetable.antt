@@ -17,21 +17,21 @@ module _ {M : Type 0} (s : Scale M) where
   abbrev pub sum : (ℕ → M) → (ℕ → M) → ℕ → M
   sum weight begin u = s.plus (begin u) (weight u)
 
-  -- begins of so many places keep their precedences: each predecessor's begin plus weight is at most the begin after it
-  abbrev pub Keeps : ℕ → (ℕ → ℕ → Bool) → (ℕ → M) → (ℕ → M) → Type 0
-  Keeps size precedes weight begin = (u v : ℕ) → u < size → v < size → precedes u v ≡ true → s.within (sum weight begin u) (begin v) ≡ true
+  -- begins keep the precedences: each predecessor's begin plus weight is at most the begin after it
+  abbrev pub Keeps : (ℕ → ℕ → Bool) → (ℕ → M) → (ℕ → M) → Type 0
+  Keeps precedes weight begin = (u v : ℕ) → precedes u v ≡ true → s.within (sum weight begin u) (begin v) ≡ true
 
   -- the least timetable of so many places, and its end
   pub record Timetable (size : ℕ) (precedes : ℕ → ℕ → Bool) (weight begin : ℕ → M) (end : M) : Type 0 where
-    pub keeps : Keeps size precedes weight begin
+    pub keeps : Keeps precedes weight begin
     -- whichever begins keep the precedences, each place begins there at the same value or a greater one
-    pub least : (others : ℕ → M) → Keeps size precedes weight others → (v : ℕ) → v < size → s.within (begin v) (others v) ≡ true
+    pub least : (others : ℕ → M) → Keeps precedes weight others → (v : ℕ) → v < size → s.within (begin v) (others v) ≡ true
     -- a place without predecessors begins at zero, any other at the greatest sum of a predecessor's begin and weight
     pub begun : (v : ℕ) → v < size → Greatest (λ u. precedes u v) (sum weight begin) size (begin v)
     -- the end is the greatest sum of a place's begin and weight, zero for no places
     pub ended : Greatest (λ _. true) (sum weight begin) size end
     -- whichever begins keep the precedences, a value that bounds every sum there is the same end or a greater one
-    pub soonest : (others : ℕ → M) → Keeps size precedes weight others → (last : M) → ((v : ℕ) → v < size → s.within (sum weight others v) last ≡ true) → s.within end last ≡ true
+    pub soonest : (others : ℕ → M) → Keeps precedes weight others → (last : M) → ((v : ℕ) → v < size → s.within (sum weight others v) last ≡ true) → s.within end last ≡ true
 
   -- places and their weights have one timetable
   abbrev pub OnlyOne : Type 0

@@ -1,6 +1,7 @@
 // How a place is begun, finished and put back, on any book, board and card.
-ghost use Rattle.std.specs.Prelude.{◌≡◌, OnErr, ◌≢◌};
-ghost use Rattle.cards.specs.Cards.{CallAnswered};
+ghost use Rattle.std.specs.Prelude.{◌≡◌, ℕ, not, ◌&&◌, ◌||◌, OnErr, ◌≢◌, nat_lt};
+ghost use Rattle.cards.specs.Answers.{Answered};
+ghost use Rattle.cards.specs.Cards.{setting_of, moment_of};
 ghost use Rattle.cards.specs.declared.state.Event.TheVariants.{Begin, Finish, PutBack};
 
 use crate::card::Card;
@@ -8,6 +9,14 @@ use crate::fault::RunFault;
 use crate::state::{Event, State};
 use boards::{Board, do_step};
 use books::Book;
+
+// Does step `a` on the board: clears what it deletes, then puts what it adds.
+fn work<B: Book, D: Board>(book: &B, board: &mut D, a: usize)
+    ensures span { D.Board.limit board.new ≡ D.Board.limit board.old }
+    ensures holds { (q : ℕ) → D.Board.set board.new q ≡ ((D.Board.set board.old q && not ((B.Book.model book.now).deletes a q)) || ((B.Book.model book.now).adds a q && nat_lt q (D.Board.limit board.old))) }
+{
+    do_step(book, board, a);
+}
 
 // Asks for an event at a place. Granted, the place moves, and a finish does its step on the board; refused, nothing changes.
 pub fn attempt<B: Book, D: Board>(
@@ -19,7 +28,7 @@ pub fn attempt<B: Book, D: Board>(
 ) -> Result<(), RunFault>
     ensures plan { card.new.plan ≡ card.old.plan }
     ensures span { D.Board.limit board.new ≡ D.Board.limit board.old }
-    ensures answered { CallAnswered (B.Book.model book.now) (D.Board.limit board.old) card.old (D.Board.set board.old) event place result card.new (D.Board.set board.new) }
+    ensures answered { Answered (setting_of (B.Book.model book.now) (D.Board.limit board.old) card.old) (moment_of card.old (D.Board.set board.old)) event place result (moment_of card.new (D.Board.set board.new)) }
     ensures board { (event ≢ Finish) → board.new ≡ board.old }
     ensures refused { OnErr result ((card.new ≡ card.old) × (board.new ≡ board.old)) }
 {
@@ -35,7 +44,7 @@ pub fn attempt<B: Book, D: Board>(
         }
         (State::InHand, Event::Finish) => {
             card.states[place] = State::Finished;
-            do_step(book, board, found.step);
+            work(book, board, found.step);
         }
         (State::InHand, Event::PutBack) => card.states[place] = State::Waiting,
         _ => return Err(RunFault::WrongState),
@@ -52,7 +61,7 @@ pub fn begin<B: Book, D: Board>(
 ) -> Result<(), RunFault>
     ensures plan { card.new.plan ≡ card.old.plan }
     ensures span { D.Board.limit board.new ≡ D.Board.limit board.old }
-    ensures answered { CallAnswered (B.Book.model book.now) (D.Board.limit board.old) card.old (D.Board.set board.old) Begin place result card.new (D.Board.set board.new) }
+    ensures answered { Answered (setting_of (B.Book.model book.now) (D.Board.limit board.old) card.old) (moment_of card.old (D.Board.set board.old)) Begin place result (moment_of card.new (D.Board.set board.new)) }
     ensures board { board.new ≡ board.old }
     ensures refused { OnErr result (card.new ≡ card.old) }
 {
@@ -68,7 +77,7 @@ pub fn finish<B: Book, D: Board>(
 ) -> Result<(), RunFault>
     ensures plan { card.new.plan ≡ card.old.plan }
     ensures span { D.Board.limit board.new ≡ D.Board.limit board.old }
-    ensures answered { CallAnswered (B.Book.model book.now) (D.Board.limit board.old) card.old (D.Board.set board.old) Finish place result card.new (D.Board.set board.new) }
+    ensures answered { Answered (setting_of (B.Book.model book.now) (D.Board.limit board.old) card.old) (moment_of card.old (D.Board.set board.old)) Finish place result (moment_of card.new (D.Board.set board.new)) }
     ensures refused { OnErr result ((card.new ≡ card.old) × (board.new ≡ board.old)) }
 {
     attempt(book, board, card, Event::Finish, place)
@@ -83,7 +92,7 @@ pub fn put_back<B: Book, D: Board>(
 ) -> Result<(), RunFault>
     ensures plan { card.new.plan ≡ card.old.plan }
     ensures span { D.Board.limit board.new ≡ D.Board.limit board.old }
-    ensures answered { CallAnswered (B.Book.model book.now) (D.Board.limit board.old) card.old (D.Board.set board.old) PutBack place result card.new (D.Board.set board.new) }
+    ensures answered { Answered (setting_of (B.Book.model book.now) (D.Board.limit board.old) card.old) (moment_of card.old (D.Board.set board.old)) PutBack place result (moment_of card.new (D.Board.set board.new)) }
     ensures board { board.new ≡ board.old }
     ensures refused { OnErr result (card.new ≡ card.old) }
 {

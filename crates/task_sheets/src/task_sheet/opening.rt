@@ -1,4 +1,4 @@
-ghost use Rattle.std.specs.Prelude.{◌≡◌, true, false, is_ok, MatchResult, OnOk};
+ghost use Rattle.std.specs.Prelude.{◌≡◌, false, MatchResult};
 ghost use Rattle.sheets.specs.declared.fault.Sheet.TheVariants.{Task as on_task};
 ghost use Rattle.sheets.specs.Verdicts.{verdict_on};
 ghost use Rattle.task_sheets.specs.Layout.{task_verdict};
@@ -32,26 +32,13 @@ impl<'a> TaskSheet<'a> {
         ensures law { MatchResult result (λ _. SaysOne bytes.now) (λ _. SaysNone bytes.now) }
         ensures one { OneSheetEach }
     {
-        match read_sheet(bytes) {
+        match check_sheet(bytes) {
             Ok(()) => {
                 self.bytes = bytes;
                 self.opened = true;
                 Ok(())
             }
-            Err(fault) => Err(fault),
+            Err(refused) => Err(refused.on(Sheet::Task)),
         }
-    }
-}
-
-// Whether the bytes are a task sheet, and what is known of them then.
-fn read_sheet(bytes: &[u8]) -> Result<(), SheetFault>
-    ensures verdict { result ≡ verdict_on on_task (task_verdict bytes.now) }
-    ensures good { OnOk result (is_ok (task_verdict bytes.now) ≡ true) }
-    ensures law { MatchResult result (λ _. SaysOne bytes.now) (λ _. SaysNone bytes.now) }
-    ensures one { OneSheetEach }
-{
-    match check_sheet(bytes) {
-        Ok(()) => Ok(()),
-        Err(refused) => Err(refused.on(Sheet::Task)),
     }
 }

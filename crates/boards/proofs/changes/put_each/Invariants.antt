@@ -1,4 +1,4 @@
-use Rattle.std.proofs.Common.{◌≡◌, ℕ, ◌<◌, ◌≤◌, cond, ◌||◌}
+use Rattle.std.proofs.Common.{◌≡◌, ℕ, ◌<◌, ◌≤◌, ◌||◌}
 use Rattle.facts.specs.Sets.{holds}
 use Rattle.boards.proofs.changes.put_each.Given as goal
 
@@ -6,9 +6,6 @@ abbrev pub invariant-loop-p : goal.invariant-loop-p
 invariant-loop-p g l =
     let d = g.D.Board in
     let old = d.set l.initial.board in
-    let told = d.tally l.initial.board in
     (d.limit l.board ≡ d.limit l.initial.board)
     × ((q : ℕ) → q < l.p → d.set l.board q ≡ (old q || holds l.facts.words q))
     × ((q : ℕ) → l.p ≤ q → d.set l.board q ≡ old q)
-    × ((q : ℕ) → q < l.p → d.tally l.board q ≡ cond (holds l.facts.words q) (d.raise (told q)) (told q))
-    × ((q : ℕ) → l.p ≤ q → d.tally l.board q ≡ told q)

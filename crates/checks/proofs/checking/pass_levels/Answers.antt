@@ -1,10 +1,12 @@
-use Rattle.std.proofs.Common.{◌≡◌, ◌-◌, length, take, sym, ap, ◌∙◌, subst, arith, length-drop}
+use Rattle.std.proofs.Common.{◌≡◌, ℕ, ◌+◌, ◌-◌, ◌<◌, ◌≤◌, List, [], length, get_or, take, drop, sym, ap, ◌∙◌, subst, arith, length-drop}
 use Rattle.std.proofs.lemmas.Result.{err_from_is_err_and}
+use Rattle.facts.specs.Sets.{holds}
 use Rattle.plans.specs.Plans as plans
+use Rattle.task_sheets.specs.Content.{Task, LawfulTask}
 use Rattle.task_sheets.specs.Parts.{numbers_of}
 use Rattle.task_sheets.specs.Opened.{task_of, rest}
 use Rattle.checks.proofs.TaskLists.{sheet_lawful}
-use Rattle.checks.proofs.Passing.{next_of, level_room, level_lawful, level_refused, ascending, drafted_more, drafted_all}
+use Rattle.checks.proofs.Passing.{next_of, level_room, level_lawful, level_refused, ascending, drafted_none, drafted_more, drafted_all}
 use Rattle.checks.proofs.checking.pass_levels.Goals as goal
 
 pub overflow-add-number : goal.overflow-add-number

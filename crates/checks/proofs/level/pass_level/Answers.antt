@@ -10,10 +10,8 @@ returns-then-not-arrange g c =
     let xs = c.args.steps.now in
     let h = c.in-ok-check-needs.ensures in (
       refl,
-      record {
-        met = subst (λ (words : List ℕ). All (Met m (holds words)) xs) c.of-start.ensures h.0;
-        stuck = c.if-not-arrange.ensures m h.1 (c.fill-rows.ensures m h.1);
-      },
+      subst (λ (words : List ℕ). All (Met m (holds words)) xs) c.of-start.ensures h.0,
+      c.if-not-arrange.ensures m h.1 (c.fill-rows.ensures m h.1),
     )
 
 pub returns : goal.returns

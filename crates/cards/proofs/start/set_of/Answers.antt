@@ -1,0 +1,24 @@
+use Rattle.std.proofs.Common.{◌≡◌, ◌&&◌, ltb, take, ap, ◌∙◌, arith}
+use Rattle.std.proofs.lemmas.List.{take_all}
+use Rattle.facts.specs.declared.NumberSet.{NumberSet}
+use Rattle.facts.specs.Sets.{holds}
+use Rattle.books.specs.Listed.{listed}
+use Rattle.task_sheets.specs.Parts.{numbers_of}
+use Rattle.checks.proofs.TaskLists.{set_more}
+use Rattle.cards.proofs.start.set_of.Goals as goal
+use Rattle.cards.proofs.start.set_of.Goals.{in-Some, in-default}
+
+pub loop-j-preserved : goal.loop-j-preserved
+loop-j-preserved c q =
+    elim c.match-get.branch [
+      | in-Some w ↦
+          (let h = w.in-Some.ensures in
+          set_more (numbers_of c.args.numbers.now) 1024 c.loop-j.j q w.in-Some.p _ _ w.insert.result h.0 h.1 w.insert.ensures.answer
+          (ap (λ (s : NumberSet 16). holds s.words q) w.set-is ∙ w.insert.ensures.after q) (c.loop-j.invariant q))
+      | in-default w ↦ absurd (omega (arith, w.in-default.ensures))
+    ]
+
+pub returns : goal.returns
+returns c q =
+    c.loop-j.invariant q
+    ∙ ap (λ ps. ltb q 1024 && listed ps q) (take_all c.loop-j.j (numbers_of c.args.numbers.now) (omega arith))
