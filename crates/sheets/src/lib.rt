@@ -1,4 +1,6 @@
 // What both kinds of sheet are made of: faults, fields, lists of ascending numbers, and the writing of bytes.
+#![tactic(auto)]
+
 pub mod fault;
 pub mod fault_text;
 pub mod fields;

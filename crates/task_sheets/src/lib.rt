@@ -1,4 +1,6 @@
 // Task sheets: archived bytes opened as a task, its lists handed out where they lie in the sheet.
+#![tactic(auto)]
+
 ghost use Rattle.task_sheets.specs.Example.{Worked};
 
 mod checks;
