@@ -9,6 +9,6 @@ returns c =
     let at = c.args.at in
     let ys = c.args.bytes.now in
     record {
-      bytes = ap (put_mid at (at + length ys - at) xs) c.copy-from-slice.ensures.after ∙ part_written xs at ys;
+      bytes = ap (put_mid at (at + length ys - at) xs) c.copy_from_slice.ensures.after ∙ part_written xs at ys;
       place = refl;
     }
