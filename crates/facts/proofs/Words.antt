@@ -39,13 +39,13 @@ digit_one_other (suc j) (suc k) ne =
     let e : 2 ^ suc k / 2 ≡ 2 ^ k = omega (arith, two-pow-succ k) in
     rw (halve (2 ^ suc k) j, e) (digit_one_other j k (λ e. ne (ap suc e)))
 
-pub bit_or : (a b k : ℕ) → bit (bit_or a b) k ≡ (bit a k || bit b k)
+pub bit_of_or : (a b k : ℕ) → bit (bit_or a b) k ≡ (bit a k || bit b k)
 unfolding bit
-bit_or a b k = grind (arith, nat_tests, digit_or a b k)
+bit_of_or a b k = grind (arith, nat_tests, digit_or a b k)
 
-pub bit_and : (a b k : ℕ) → bit (bit_and a b) k ≡ (bit a k && bit b k)
+pub bit_of_and : (a b k : ℕ) → bit (bit_and a b) k ≡ (bit a k && bit b k)
 unfolding bit
-bit_and a b k = grind (arith, nat_tests, digit_and a b k)
+bit_of_and a b k = grind (arith, nat_tests, digit_and a b k)
 
 pub bit_not : (m k : ℕ) → m < 2 ^ 64 → k < 64 → bit ((2 ^ 64 - 1) - m) k ≡ not (bit m k)
 unfolding bit
@@ -80,14 +80,14 @@ module _ (ws : List ℕ) (p q : ℕ) (h : p / 64 < length ws) where
   unfolding holds
   holds_put =
       holds_set ws (p / 64) (bit_or (get_or ws (p / 64) 0) ((1 * 2 ^ (p % 64)) % 2 ^ 64)) q h
-      ∙ rw (bit_or (get_or ws (p / 64) 0) ((1 * 2 ^ (p % 64)) % 2 ^ 64) (q % 64), bit_mask p (q % 64)) (grind (arith, nat_tests))
+      ∙ rw (bit_of_or (get_or ws (p / 64) 0) ((1 * 2 ^ (p % 64)) % 2 ^ 64) (q % 64), bit_mask p (q % 64)) (grind (arith, nat_tests))
 
   pub holds_clear : holds (set ws (p / 64) (bit_and (get_or ws (p / 64) 0) ((2 ^ 64 - 1) - (1 * 2 ^ (p % 64)) % 2 ^ 64))) q ≡ cond (eqb q p) false (holds ws q)
   unfolding holds
   holds_clear =
       holds_set ws (p / 64) (bit_and (get_or ws (p / 64) 0) ((2 ^ 64 - 1) - (1 * 2 ^ (p % 64)) % 2 ^ 64)) q h
       ∙ rw (
-        bit_and (get_or ws (p / 64) 0) ((2 ^ 64 - 1) - (1 * 2 ^ (p % 64)) % 2 ^ 64) (q % 64),
+        bit_of_and (get_or ws (p / 64) 0) ((2 ^ 64 - 1) - (1 * 2 ^ (p % 64)) % 2 ^ 64) (q % 64),
         bit_not ((1 * 2 ^ (p % 64)) % 2 ^ 64) (q % 64) (mask_lt p) (omega arith),
         bit_mask p (q % 64),
       ) (grind (arith, nat_tests))
@@ -131,7 +131,7 @@ lowest (suc k) n p l =
     lowest_step k n (n % 2) (count_trailing_zeros k (n / 2)) refl p (λ q. lowest k (n / 2) q half)
 
 pub bit_minus : (a b k : ℕ) → b < 2 ^ 64 → k < 64 → bit (bit_and a ((2 ^ 64 - 1) - b)) k ≡ (bit a k && not (bit b k))
-bit_minus a b k l h = bit_and a ((2 ^ 64 - 1) - b) k ∙ ap (λ x. bit a k && x) (bit_not b k l h)
+bit_minus a b k l h = bit_of_and a ((2 ^ 64 - 1) - b) k ∙ ap (λ x. bit a k && x) (bit_not b k l h)
 
 digit_cut_high : (w l d : ℕ) → w / 2 ^ l * 2 ^ l / 2 ^ (l + d) ≡ w / 2 ^ (l + d)
 digit_cut_high w l d =

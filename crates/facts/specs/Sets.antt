@@ -1,5 +1,6 @@
 -- Which numbers a row of words of 64 bits holds.
-use Rattle.std.specs.Prelude.{◌≡◌, ℕ, ◌/◌, ◌%◌, ◌^◌, ◌<◌, ◌≤◌, Bool, true, false, List, ◌==◌, slice_index}
+use Rattle.std.specs.Prelude.{◌≡◌, ℕ, zero, suc, ◌/◌, ◌%◌, ◌^◌, ◌<◌, ◌≤◌, Bool, true, false, ◌&&◌, List, ◌==◌, slice_index}
+use Rattle.std.specs.Bool.{beq}
 
 -- bit k of n
 unfoldable pub bit : ℕ → ℕ → Bool
@@ -19,3 +20,8 @@ pub record Next (within : ℕ → Bool) (p n : ℕ) : Type 0 where
   pub from : p ≤ n
   pub here : within n ≡ true
   pub before : (q : ℕ) → p ≤ q → q < n → within q ≡ false
+
+-- whether two sets have the same numbers below n
+unfoldable pub same_below : ℕ → (ℕ → Bool) → (ℕ → Bool) → Bool
+same_below zero f g = true
+same_below (suc n) f g = beq (f n) (g n) && same_below n f g

@@ -1,9 +1,9 @@
 // Sets of small numbers, a bit for each number.
+#![tactic(auto)]
+
 ghost use Rattle.std.specs.Prelude.{◌≡◌, ℕ, ◌*◌, ◌<◌, ◌≤◌, Bool, true, false, not, ◌&&◌, ◌||◌, length, if◌then◌else◌, MatchBool, MatchOption, ◌==◌, nat_lt};
-ghost use Rattle.facts.specs.Sets.{holds, First, Next};
-ghost use Rattle.std.specs.Cmp.Rules.{comparing};
-ghost use Rattle.std.proofs.Common.{rules, arith};
-ghost use Rattle.std.specs.Cmp as Keys;
+ghost use Rattle.facts.specs.Sets.{holds, First, Next, same_below};
+ghost use Rattle.facts.specs.Laws.{same_numbers, same_numbers-partial};
 
 // A set of numbers below 64 * W: number p is bit p % 64 of word p / 64.
 #[derive(Clone, Copy)]
@@ -178,17 +178,20 @@ impl<const W: usize> NumberSet<W> {
 
 // Two sets are equal where they hold the same numbers.
 impl<const W: usize> PartialEq for NumberSet<W> {
-    ghost equals = { λ a b r. MatchBool r ((q : ℕ) → holds a.words q ≡ holds b.words q) ((q : ℕ) × (holds a.words q ≡ not (holds b.words q))) };
+    ghost eq = { λ a b. same_below 1024 (holds a.words) (holds b.words) };
 
-    ghost laws = { Keys.partial_equiv_from_equiv (first_of (Prim.search (comparing, rules), Prim.grind (arith, Self.row.coded.inj))) };
+    ghost laws = { same_numbers-partial 1024 (λ s. holds s.words) };
 
-    fn eq(&self, other: &NumberSet<W>) -> bool {
+    fn eq(&self, other: &NumberSet<W>) -> bool
+        ensures words { result ≡ same_below 1024 (holds self.now.words) (holds other.now.words) }
+        ensures numbers { MatchBool result ((q : ℕ) → holds self.now.words q ≡ holds other.now.words q) ((q : ℕ) × (holds self.now.words q ≡ not (holds other.now.words q))) }
+    {
         self.first_outside(other).is_none() && other.first_outside(self).is_none()
     }
 }
 
 impl<const W: usize> Eq for NumberSet<W> {
-    ghost laws = { first_of (Prim.search (comparing, rules), Prim.grind (arith, Self.row.coded.inj)) };
+    ghost laws = { same_numbers 1024 (λ s. holds s.words) };
 }
 
 #[cfg(test)]

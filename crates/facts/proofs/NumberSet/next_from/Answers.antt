@@ -12,10 +12,10 @@ returns-then-word-ne0 g c =
     let words = c.args.self.now.words in
     let p = c.args.p in
     let n = c.loop-i.i in
-    let l = c.saturating-sub-low.result in
+    let l = c.saturating_sub-low.result in
     let w = get_or words n 0 in
     let v = (w / 2 ^ l * 2 ^ l) % 2 ^ 64 in
-    let at = word w p n l (omega arith) c.saturating-sub-low.ensures in
+    let at = word w p n l (omega arith) c.saturating_sub-low.ensures in
     let pos : 0 < v = omega arith in
     let fits : v < 2 ^ 64 = omega arith in
     let t = low_below words p n v (omega arith) c.loop-i.invariant at pos fits in (
@@ -32,7 +32,7 @@ loop-i-preserved g c =
     let words = c.args.self.now.words in
     let n = c.loop-i.i in
     clear_more words c.args.p n _ (omega arith) c.loop-i.invariant
-    (word (get_or words n 0) c.args.p n c.saturating-sub-low.result (omega arith) c.saturating-sub-low.ensures)
+    (word (get_or words n 0) c.args.p n c.saturating_sub-low.result (omega arith) c.saturating_sub-low.ensures)
     c.if-word-ne0.false
 
 pub returns : goal.returns
