@@ -1,4 +1,6 @@
 // Step books: what each step needs, adds and deletes, and how long it takes.
+#![tactic(auto)]
+
 ghost use Rattle.books.specs.Laws.{SetLaws};
 
 pub mod book;
