@@ -1,4 +1,6 @@
 // The checker for other programs to link: each call takes the sheets as bytes and a lent buffer, and answers a number.
+#![tactic(auto)]
+
 ghost use Rattle.std.specs.Prelude.{◌≡◌, ℕ, Result};
 ghost use Rattle.listings.specs.Listings.{Listed};
 ghost use Rattle.cards.specs.declared.fault.RunFault.{RunFault as RunFaults};

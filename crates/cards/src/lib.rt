@@ -1,4 +1,6 @@
 // Run cards: the places of a plan as they wait, are in hand and are finished, beside the board that they change.
+#![tactic(auto)]
+
 pub mod card;
 pub mod fault;
 pub mod fault_text;

@@ -6,3 +6,4 @@ pub mod TaskLists
 pub mod Passing
 pub mod Levels
 pub mod Turns
+pub mod Arrangements

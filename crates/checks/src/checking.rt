@@ -2,7 +2,7 @@
 ghost use Rattle.std.specs.Prelude.{◌≡◌, ℕ, length, IfOk, Ok, Err, MatchResult, OnOk};
 ghost use Rattle.facts.specs.Sets.{holds};
 ghost use Rattle.task_sheets.specs.Opened.{task_of};
-ghost use Rattle.checks.specs.Arrangements.{Arranges};
+ghost use Rattle.checks.specs.Arrangements.{Arranges, OneArrangement};
 ghost use Rattle.checks.specs.Checked.{Matches, Checked, EndsIn, OneAnswer, Reached, bare};
 ghost use Rattle.checks.specs.Drafts.{Drafted, PlanDrafted};
 
@@ -88,6 +88,13 @@ pub fn arrange<B: Book>(
     let words = judge(book, task, &mut draft)?;
     *into = Arrangement::of(&draft);
     Ok(words)
+}
+
+// A plan has one arrangement: the same places in the same order, and the same precedence.
+pub fn a_plan_has_one_arrangement() -> u8
+    ensures { OneArrangement }
+{
+    0
 }
 
 // A plan has one answer: no other one fits the definition.

@@ -1,5 +1,5 @@
 ghost use Rattle.std.specs.Prelude.{◌≡◌};
-ghost use Rattle.checks.specs.Faults.{plan_number};
+ghost use Rattle.checks.specs.Faults.{plan_number, Numbering};
 ghost use Rattle.checks.specs.declared.fault.PlanFault.TheVariants.{Sheet as of_sheet};
 
 use sheets::SheetFault;
@@ -40,6 +40,13 @@ impl PlanFault {
             PlanFault::GoalMissing { .. } => 13,
         }
     }
+}
+
+// Every fault tells its number, and stands on the list of refusals.
+pub fn every_fault_is_listed() -> u8
+    ensures { Numbering }
+{
+    0
 }
 
 // A sheet's fault is a plan's fault, whole.

@@ -1,4 +1,6 @@
 // The check of a plan: accepted or refused, the one order of its places, and which place precedes which.
+#![tactic(auto)]
+
 pub mod arrangement;
 mod authorize;
 pub mod checking;
@@ -7,9 +9,10 @@ pub mod fault;
 pub mod fault_text;
 mod level;
 pub mod opening;
-mod reading;
+pub mod reading;
 
 pub use arrangement::{Arrangement, Place};
 pub use checking::{arrange, check};
 pub use fault::PlanFault;
 pub use opening::check_bytes;
+pub use reading::part_set;

@@ -22,7 +22,7 @@ fn set_of(numbers: &Numbers) -> FactSet
 }
 
 // The set of the numbers of a part; empty where the task has no such part.
-pub(crate) fn part_set(task: &TaskSheet, which: Part) -> FactSet
+pub fn part_set(task: &TaskSheet, which: Part) -> FactSet
     ensures { (q : ℕ) → holds result.words q ≡ listed (list_of (task_of task.now) which) q }
 {
     match task.item(which) {

@@ -1,4 +1,6 @@
 // What the program can be asked for, and the words that it answers with.
+#![tactic(auto)]
+
 pub mod command;
 pub mod ending;
 pub mod meaning;

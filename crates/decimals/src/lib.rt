@@ -1,4 +1,6 @@
 // Decimal numbers in lent buffers.
+#![tactic(auto)]
+
 ghost use Rattle.std.specs.Prelude.{◌≡◌, ◌+◌, ◌/◌, ◌%◌, ◌^◌, ◌<◌, ◌≤◌, length, decimal, MatchOption};
 ghost use Rattle.decimals.specs.Numbers.{Decimals};
 ghost use Rattle.decimals.specs.Texts.{Puts};

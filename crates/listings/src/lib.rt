@@ -1,4 +1,6 @@
 // The listing: what a book sheet and a task sheet say of a plan, as text.
+#![tactic(auto)]
+
 ghost use Rattle.listings.specs.Listings.{Listed, OneText};
 
 use sheets::TooShort;

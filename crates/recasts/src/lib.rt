@@ -1,4 +1,6 @@
 // Recasting: an accepted plan written again, as a task sheet whose levels are its strata.
+#![tactic(auto)]
+
 mod layers;
 mod lists;
 pub mod recasting;

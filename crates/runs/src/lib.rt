@@ -1,4 +1,6 @@
 // Whole runs: a task issued, a crew's requests carried out, the places timed and the plan recast in one call.
+#![tactic(auto)]
+
 mod carrying;
 mod lengths;
 mod preparing;

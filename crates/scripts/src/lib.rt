@@ -1,4 +1,6 @@
 // A crew's script: a text of lines, each one request.
+#![tactic(auto)]
+
 pub mod fault_text;
 pub mod laws;
 pub mod line;

@@ -1,4 +1,6 @@
 // Timetables: when each place of a card begins at the earliest, in any measure.
+#![tactic(auto)]
+
 pub mod measure;
 pub mod seconds;
 pub mod step_count;
