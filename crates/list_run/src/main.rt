@@ -1,0 +1,6 @@
+// The bench plan checker: what its words ask for is done in `desk`.
+use desk::answer;
+
+fn main(rt: HostRuntime) -> anyhow::Result<()> {
+    answer(&rt)
+}
