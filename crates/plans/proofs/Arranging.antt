@@ -1,5 +1,5 @@
 -- Places that are the picked orders of a plan's levels: one more level, and what holds of them.
-use Rattle.std.proofs.Common.{◌≡◌, ℕ, suc, ◌+◌, ◌-◌, ◌<◌, ◌≤◌, List, [], ◌∷◌, ◌++◌, length, get_or, replicate, sym, refl, ap, ◌∙◌, subst, inl, inr, arith}
+use Rattle.std.proofs.Common.{◌≡◌, ℕ, suc, ◌+◌, ◌-◌, ◌<◌, ◌≤◌, List, [], ◌∷◌, ◌++◌, length, get_or, replicate, sym, refl, ◌∙◌, subst, inl, inr, arith}
 use Rattle.std.specs.List.{AllByRecursion as All}
 use Rattle.std.proofs.ByRecursion.{has_get_or, has_shuffled}
 use Rattle.std.proofs.lemmas.List.{length-append, get_or_append_left, get_or-append-add, length-replicate, get_or-replicate}
@@ -9,8 +9,8 @@ use Rattle.books.specs.Book.{Model, Lawful}
 use Rattle.plans.specs.Steps.{Authorizes}
 use Rattle.plans.specs.Plans.{Authorized}
 use Rattle.plans.specs.Order.{Picked}
-use Rattle.plans.specs.Places.{Places, Stands, ArrangedFrom, Arranged, Row, Lays}
-use Rattle.plans.specs.Laws.{Arranging, Ascent, Laying, Alike, Likeness}
+use Rattle.plans.specs.Places.{Places, Stands, ArrangedFrom, Arranged, Row}
+use Rattle.plans.specs.Laws.{Arranging, Arrangeable, Ascent, Laying, Likeness}
 use Rattle.plans.proofs.Members.{pairwise_get_or}
 use Rattle.plans.proofs.Layers.{LaysFrom, laid}
 use Rattle.plans.proofs.Picks.{turning, uniqueness, reaching}
@@ -226,7 +226,7 @@ authorized_from m law o n i [] a = tt
 authorized_from m law o n i (xs ∷ rest) a = ((reaching m law xs).1 (a.0, a.1), authorized_from m law o (n + length a.0) (suc i) rest a.3)
 
 pub arranging : Arranging
-arranging m law plan = (
-  λ a. (let r = goes_on m law plan a [] [] 0 refl in (r.places, r.arranged)),
-  λ t. authorized_from m law t.0 0 0 plan t.1,
-)
+arranging m law plan a = let r = goes_on m law plan a [] [] 0 refl in (r.places, r.arranged)
+
+pub arrangeable : Arrangeable
+arrangeable m law plan = (λ a. arranging m law plan a, λ t. authorized_from m law t.0 0 0 plan t.1)

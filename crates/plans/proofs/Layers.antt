@@ -1,13 +1,13 @@
 -- Places by rank: what the places of each rank leave is what the level of their steps leaves.
-use Rattle.std.proofs.Common.{◌≡◌, ℕ, zero, suc, ◌+◌, ◌<◌, ◌≤◌, Bool, true, false, cond, not, ◌&&◌, ◌||◌, eqb, ltb, ◌⊎◌, List, [], ◌∷◌, length, get_or, Decides, sym, refl, ap, ◌∙◌, inl, inr, arith, rules}
-use Rattle.std.specs.List.{ContainsAt as Has, HoldsAt, AllByRecursion as All}
+use Rattle.std.proofs.Common.{◌≡◌, ℕ, zero, suc, ◌+◌, ◌<◌, ◌≤◌, Bool, true, false, cond, not, ◌&&◌, ◌||◌, List, [], ◌∷◌, length, get_or, Decides, sym, refl, ap, ◌∙◌, inl, inr, arith}
+use Rattle.std.specs.List.{ContainsAt as Has, HoldsAt}
 use Rattle.std.proofs.ByRecursion.{has_get_or, all-has}
-use Rattle.std.proofs.lemmas.Bool.{cases_Bool, cases_lt, both_ways, ltb-true, lt-ltb, le-ltb, ltb-false}
-use Rattle.std.proofs.lemmas.Bool.Decides.{nat_tests, Decides-by_or}
-use Rattle.books.specs.Book.{Model, Lawful, Facts, after}
-use Rattle.plans.specs.Steps.{passed, some, Disturb, Authorizes, Met}
+use Rattle.std.proofs.lemmas.Bool.{cases_lt, both_ways, ltb-true, lt-ltb, le-ltb}
+use Rattle.std.proofs.lemmas.Bool.Decides.{Decides-by_or}
+use Rattle.books.specs.Book.{Model, Lawful, Facts}
+use Rattle.plans.specs.Steps.{passed, some, Disturb, Met}
 use Rattle.plans.specs.Plans.{finally, Recognized}
-use Rattle.plans.specs.Places.{Places, Precedes, InOrder, Closed, Ready, left, left_below, under, all, Row, Lays}
+use Rattle.plans.specs.Places.{Places, InOrder, left, left_below, under, all, Row, Lays}
 use Rattle.plans.specs.Laws.{Climbs, Ending, Feeding}
 use Rattle.plans.proofs.Runs.{mono, same, independent}
 

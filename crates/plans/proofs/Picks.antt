@@ -1,5 +1,5 @@
 -- The picked order of a level: that it is in turn, exists where the level is authorized, and is the only one.
-use Rattle.std.proofs.Common.{◌≡◌, ℕ, zero, suc, ◌<◌, ◌≤◌, Bool, true, false, eqb, ◌⊎◌, List, [], ◌∷◌, ◌++◌, length, get_or, sym, refl, ap, ◌∙◌, subst, ap₂, inl, inr, arith}
+use Rattle.std.proofs.Common.{◌≡◌, ℕ, zero, suc, ◌<◌, Bool, true, eqb, List, [], ◌∷◌, ◌++◌, length, sym, refl, ◌∙◌, subst, ap₂, inl, inr, arith}
 use Rattle.std.specs.List.{ContainsAt as Has, AllByRecursion as All}
 use Rattle.std.specs.List.Sorted.{IsPermutation}
 use Rattle.std.proofs.ByRecursion.{all-has, all_has_itself, All-weaker, has_append_right, has_shuffled}
@@ -8,7 +8,7 @@ use Rattle.std.proofs.lemmas.Bool.{cases_Bool, cases_order, both_ways, eqb-true,
 use Rattle.books.specs.Book.{Model, Lawful}
 use Rattle.plans.specs.Steps.{Authorizes, some}
 use Rattle.plans.specs.Plans.{Distinct, InTurn}
-use Rattle.plans.specs.Order.{Before, Free, Leads, SmallestFirst, Picked}
+use Rattle.plans.specs.Order.{Free, Leads, SmallestFirst, Picked}
 use Rattle.plans.specs.Laws.{Freedom, Reaching, Uniqueness, Turning, Picking, Refusing}
 use Rattle.plans.proofs.Members.{has_none, has_first, has_more, has_cases, take_out, out, was_in, pairwise_weaker}
 use Rattle.plans.proofs.Deciding.{free_or_before, none_before, LeastFree, least_free}

@@ -114,7 +114,7 @@ recasting m law start goal plan strata accepted s =
     let o = s.places in
     let r = restaging m law o (ascent m plan o s.arranged) plan (laying m plan o s.arranged) start accepted.recognized
     s.stratum s.climbs strata s.lays (All-weaker Ascending Distinct distinct_from_ascending strata s.ascending) in
-    let t = (arranging m law strata).0 (all_authorized m start strata r.recognized) in
+    let t = arranging m law strata (all_authorized m start strata r.recognized) in
     record {
       accepted = record { recognized = r.recognized; reached = λ p g. r.same p ∙ accepted.reached p g };
       same = r.same;

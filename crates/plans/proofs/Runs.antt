@@ -1,12 +1,11 @@
 -- What a part of the places leaves, and what a place that is ready finds.
-use Rattle.std.proofs.Common.{◌≡◌, ℕ, zero, suc, ◌<◌, ◌≤◌, Bool, true, false, cond, not, ◌&&◌, ◌||◌, eqb, ltb, ◌⊎◌, sym, refl, ap, ◌∙◌, inl, inr, arith, rules}
-use native.Mathlib.Decide.{le_ind}
-use Rattle.std.proofs.lemmas.Bool.{both_ways, cases_Bool, cases_lt, eq-eqb, ne_eqb, eqb-true, ltb-true, lt-ltb, le-ltb, ltb-false}
+use Rattle.std.proofs.Common.{◌≡◌, ℕ, zero, suc, ◌<◌, ◌≤◌, Bool, true, false, cond, not, ◌&&◌, ◌||◌, ◌⊎◌, refl, inl, inr, arith, rules}
+use Rattle.std.proofs.lemmas.Bool.{both_ways, cases_Bool, cases_lt, ltb-true}
 use Rattle.std.proofs.lemmas.Bool.Decides.{nat_tests}
 use Rattle.books.specs.Book.{Model, Facts, after}
-use Rattle.plans.specs.Steps.{Disturb, Authorizes, Met}
-use Rattle.plans.specs.Places.{Places, Precedes, InOrder, Closed, Ready, left, left_below, under}
-use Rattle.plans.specs.Laws.{with, Independence, Commutation, Needs, Apart, Progress, Fed}
+use Rattle.plans.specs.Steps.{Disturb}
+use Rattle.plans.specs.Places.{Places, Precedes, InOrder, left_below, under}
+use Rattle.plans.specs.Laws.{with, Independence, Commutation, Needs, Apart, Progress}
 
 -- one place more, for one fact: a is held before in the first run and b in the second
 mono_step : (i j add del a b : Bool) → (i ≡ true → add ≡ true → j ≡ true) → (j ≡ true → del ≡ true → i ≡ true) → (a ≡ true → b ≡ true)

@@ -1,13 +1,13 @@
 -- The strata as levels are a recognized plan that leaves the same facts.
-use Rattle.std.proofs.Common.{◌≡◌, ℕ, zero, suc, ◌<◌, ◌≤◌, Bool, true, false, ◌⊎◌, List, [], ◌∷◌, sym, refl, ap, ◌∙◌, subst, subst₂, inl, inr, arith}
+use Rattle.std.proofs.Common.{◌≡◌, ℕ, suc, ◌<◌, List, [], ◌∷◌, sym, ap, ◌∙◌, subst, subst₂, inl, inr, arith}
 use Rattle.std.specs.List.{ContainsAt as Has, AllByRecursion as All}
 use Rattle.std.proofs.ByRecursion.{all_has_itself, All-weaker}
 use Rattle.std.proofs.lemmas.List.Sorted.{IsPermutation-refl}
 use Rattle.std.proofs.lemmas.Bool.{lt-ltb, ltb-true, le-ltb}
 use Rattle.books.specs.Book.{Model, Lawful, Facts}
 use Rattle.plans.specs.Steps.{passed, Disturb, Authorizes, Met}
-use Rattle.plans.specs.Plans.{Distinct, InTurn, Recognized, finally}
-use Rattle.plans.specs.Places.{Places, InOrder, Row, Lays, under}
+use Rattle.plans.specs.Plans.{Distinct, InTurn, Recognized}
+use Rattle.plans.specs.Places.{Places, InOrder, Row, under}
 use Rattle.plans.specs.Laws.{Climbs, Fed, Calm, Restaging, Stillness}
 use Rattle.plans.proofs.Runs.{independence, needing}
 use Rattle.plans.proofs.Layers.{LaysFrom, lays, Leaves, onward, ends, start, by_stratum, ending, feeding}

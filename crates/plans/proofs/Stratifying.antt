@@ -11,7 +11,7 @@ use Rattle.plans.proofs.Members.{has_none, has_first, has_more, has_cases}
 use Rattle.plans.proofs.Deciding.{authorizes_or_not, feeds_or_not}
 use Rattle.plans.proofs.Preceding.{not_itself, not_back}
 use Rattle.plans.proofs.Layers.{LaysFrom, laid}
-use Rattle.plans.proofs.Arranging.{ascent, arranging}
+use Rattle.plans.proofs.Arranging.{ascent, arranging, arrangeable}
 
 -- a number above the ranks of all chosen places below n, and no higher than it must be
 record Above (P : ℕ → Type 0) (rank : ℕ → ℕ) (n : ℕ) : Type 0 where
@@ -209,7 +209,7 @@ module _ (o : Places) (rank : ℕ → ℕ) where
 
 pub stratifying : Stratifying
 stratifying m law plan = (
-  λ a. (let t = (arranging m law plan).0 a in
+  λ a. (let t = arranging m law plan a in
       let o = t.0 in
       let s = stratified m law o (ascent m plan o t.1) o.size (omega arith) in
       let h = above_all (λ u. Unit {0}) (λ u. inl tt) s.stratum o.size in
@@ -226,5 +226,5 @@ stratifying m law plan = (
           some = r.some;
         },
       )),
-  λ t. (arranging m law plan).1 (t.1.places, t.1.arranged),
+  λ t. (arrangeable m law plan).1 (t.1.places, t.1.arranged),
 )

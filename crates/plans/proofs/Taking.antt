@@ -1,17 +1,16 @@
 -- Taking a level's steps one by one, always the smallest free one: what a search that marks the steps left can rely on.
-use Rattle.std.proofs.Common.{◌≡◌, ℕ, zero, suc, ◌<◌, ◌≤◌, Bool, true, false, not, ◌&&◌, eqb, ◌⊎◌, List, [], ◌∷◌, ◌++◌, length, get_or, sym, refl, ap, ◌∙◌, subst, inl, inr, arith}
-use Rattle.std.specs.List.{ContainsAt as Has, AllByRecursion as All}
+use Rattle.std.proofs.Common.{◌≡◌, ℕ, ◌<◌, Bool, true, false, not, ◌&&◌, eqb, List, [], ◌∷◌, ◌++◌, length, get_or, sym, refl, ap, ◌∙◌, subst, inl, inr, arith}
+use Rattle.std.specs.List.{ContainsAt as Has}
 use Rattle.std.specs.List.Sorted.{IsPermutation}
 use Rattle.std.proofs.ByRecursion.{has_get_or, has_shuffled, all_shuffled}
 use Rattle.std.proofs.lemmas.List.{append_assoc, append-nil}
 use Rattle.std.proofs.lemmas.List.Sorted.{IsPermutation-refl, IsPermutation-cons, IsPermutation-trans, IsPermutation-sym}
-use Rattle.std.proofs.lemmas.Bool.{cases_lt, cases_eq, cases_order, both_ways, ne_eqb, eqb-false, and_parts, not-true, and_from, not_from_false}
-use Rattle.std.proofs.lemmas.Bool.Decides.{nat_tests}
+use Rattle.std.proofs.lemmas.Bool.{cases_order, both_ways, ne_eqb, eqb-false, and_parts, not-true, and_from, not_from_false}
 use Rattle.books.specs.Book.{Model}
 use Rattle.plans.specs.Steps.{Authorizes}
 use Rattle.plans.specs.Plans.{Distinct, Ascending, Authorized}
 use Rattle.plans.specs.Order.{Free, Leads, SmallestFirst, Picked}
-use Rattle.plans.proofs.Members.{has_none, has_first, take_out, out, still_in, was_in, pairwise_get_or, distinct_from_ascending, distinct_shuffled, has_cases}
+use Rattle.plans.proofs.Members.{has_first, take_out, out, still_in, was_in, pairwise_get_or, distinct_from_ascending}
 use Rattle.plans.proofs.Picks.{free_among, leads, refusing}
 
 shuffled_after : (bs xs ys : List ℕ) → IsPermutation xs ys → IsPermutation (bs ++ xs) (bs ++ ys)

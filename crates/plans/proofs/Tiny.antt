@@ -1,5 +1,5 @@
 -- The small books, the plan, its strata and the level with a cycle meet what the theorems ask for.
-use Rattle.std.proofs.Common.{◌≡◌, ℕ, zero, suc, ◌+◌, ◌<◌, ◌≤◌, true, false, cond, not, eqb, [], ◌∷◌, get_or, sym, refl, ap, subst, inl, inr, arith}
+use Rattle.std.proofs.Common.{◌≡◌, ℕ, zero, suc, ◌+◌, ◌<◌, ◌≤◌, true, false, eqb, [], ◌∷◌, get_or, sym, refl, subst, inl, inr, arith}
 use mathlib.Core.Bool.{false≢true}
 use Rattle.std.specs.List.{ContainsAt as Has, AllByRecursion as All}
 use Rattle.std.proofs.lemmas.List.Sorted.{IsPermutation-refl, IsPermutation-swap}
@@ -12,7 +12,7 @@ use Rattle.plans.specs.Order.{Before, Free, Picked, Cycle, next, onward}
 use Rattle.plans.specs.Places.{Arranged, Precedes, InOrder, Closed, Ready, Row, Lays}
 use Rattle.plans.specs.Laws.{Climbs}
 use Rattle.plans.specs.Recasting.{Low}
-use Rattle.plans.specs.Tiny.{tiny, plan, places, stratum, strata, begun, ring, around, PremisesMet}
+use Rattle.plans.specs.Tiny.{tiny, plan, places, stratum, strata, begun, ring, around, PremisesMet, FurtherPremisesMet}
 use Rattle.plans.proofs.Preceding.{not_itself, not_back}
 use Rattle.plans.proofs.Members.{has_none, has_first, has_more, has_cases}
 use Rattle.plans.proofs.Picks.{refusing}
@@ -262,20 +262,24 @@ met = record {
   lawful = lawful;
   ascending = (((omega arith, tt), (tt, tt)), ((tt, tt), tt));
   accepted = accepted;
-  picked = order;
-  ordered = (first_level, (last_level, tt));
-  free = (free, record { differ = λ e. omega arith; refused = zero_one });
   arranged = arranged;
-  in_order = in_order;
-  levels = laying tiny plan places arranged;
-  fed = feeding tiny lawful places in_order plan (laying tiny plan places arranged) (λ p. eqb p 0) accepted.recognized;
   precedes = (first_second, first_third);
-  independent = (second_third, not_back tiny places 2 1 (omega arith));
-  closed = closed;
-  ready = (ready_second, ready_third);
   climbs = climbs;
   lays = lays;
   distinct = ((tt, tt), (((λ e. omega arith, tt), (tt, tt)), tt));
+}
+
+pub further_met : FurtherPremisesMet
+further_met = record {
+  picked = order;
+  ordered = (first_level, (last_level, tt));
+  free = (free, record { differ = λ e. omega arith; refused = zero_one });
+  in_order = in_order;
+  levels = laying tiny plan places arranged;
+  fed = feeding tiny lawful places in_order plan (laying tiny plan places arranged) (λ p. eqb p 0) accepted.recognized;
+  independent = (second_third, not_back tiny places 2 1 (omega arith));
+  closed = closed;
+  ready = (ready_second, ready_third);
   strataof = record {
     places = places;
     stratum = stratum;

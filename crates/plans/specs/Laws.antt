@@ -1,5 +1,5 @@
 -- The theorems about plans, of every lawful book.
-use Rattle.std.specs.Prelude.{◌≡◌, ℕ, ◌<◌, Bool, true, false, ◌||◌, ◌↔◌, List, [], ◌∷◌, ◌++◌, length, take, ◌==◌, ◌≢◌, slice_index_or}
+use Rattle.std.specs.Prelude.{◌≡◌, ℕ, ◌<◌, Bool, true, false, ◌||◌, ◌↔◌, List, [], ◌++◌, length, take, ◌==◌, ◌≢◌, slice_index_or}
 use Rattle.std.specs.List.{AllZip, ContainsAt as Has, flat_map, AllByRecursion as All}
 use Rattle.std.specs.List.Sorted.{IsPermutation}
 use Rattle.books.specs.Book.{Model, Lawful, Facts, after}
@@ -67,6 +67,10 @@ Laying = (m : Model) (plan : List (List ℕ)) (o : Places) → Arranged m plan o
 -- a plan of authorized levels can be arranged
 abbrev pub Arranging : Type 0
 Arranging = (m : Model) → Lawful m → (plan : List (List ℕ)) → All (Authorized m) plan → (o : Places) × Arranged m plan o
+
+-- a plan can be arranged exactly where its levels are authorized
+abbrev pub Arrangeable : Type 0
+Arrangeable = (m : Model) → Lawful m → (plan : List (List ℕ)) → All (Authorized m) plan ↔ ((o : Places) × Arranged m plan o)
 
 -- as many places, with the same steps and levels
 pub record Alike (o o' : Places) : Type 0 where

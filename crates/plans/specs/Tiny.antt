@@ -50,26 +50,29 @@ ring = record {
 abbrev pub around : List ℕ
 around = 0 ∷ 1 ∷ 2 ∷ []
 
+-- from fact 0 the plan reaches fact 1
 pub record PremisesMet : Type 0 where
   pub lawful : Lawful tiny
   pub ascending : All Ascending plan
-  -- from fact 0 the plan reaches fact 1
   pub accepted : Accepted tiny (λ p. nat_eq p 0) (λ p. nat_eq p 1) plan
+  pub arranged : Arranged tiny plan places
+  pub precedes : Precedes tiny places 0 1 × Precedes tiny places 0 2
+  pub climbs : Climbs tiny places stratum
+  pub lays : Lays places stratum strata
+  pub distinct : All Distinct strata
+
+-- the other premises: those about orders, runs and strata, and a level with a cycle
+pub record FurtherPremisesMet : Type 0 where
   pub picked : Picked tiny (0 ∷ 1 ∷ []) (1 ∷ 0 ∷ [])
   pub ordered : AllZip (AuthorizedOrder tiny) plan ((1 ∷ 0 ∷ []) ∷ (2 ∷ []) ∷ [])
   pub free : Free tiny (0 ∷ 1 ∷ []) 1 × Before tiny 1 0
-  pub arranged : Arranged tiny plan places
   pub in_order : InOrder tiny places
   pub levels : Lays places places.level plan
   pub fed : Fed tiny places (λ p. nat_eq p 0)
-  pub precedes : Precedes tiny places 0 1 × Precedes tiny places 0 2
   -- after place 0 the two others are ready, and neither precedes the other
   pub independent : (Precedes tiny places 1 2 → ⊥) × (Precedes tiny places 2 1 → ⊥)
   pub closed : Closed tiny places begun
   pub ready : Ready tiny places begun 1 × Ready tiny places begun 2
-  pub climbs : Climbs tiny places stratum
-  pub lays : Lays places stratum strata
-  pub distinct : All Distinct strata
   pub strataof : StrataOf tiny plan strata
   -- a level with a cycle: no step of it is free, and it is not authorized
   pub ring_lawful : Lawful ring

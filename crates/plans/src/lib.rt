@@ -1,7 +1,9 @@
 // The theorems about plans: each function asks for the proof of the theorem that its contract names.
-ghost use Rattle.plans.specs.Laws.{Freedom, Reaching, Uniqueness, Turning, Picking, Refusing, Recognition, Singling, Acyclicity, Ascent, Laying, Arranging, Likeness, Independence, Commutation, Needs, Apart, Progress, Feeding, Ending, Stillness, Restaging};
+#![tactic(auto)]
+
+ghost use Rattle.plans.specs.Laws.{Freedom, Reaching, Uniqueness, Turning, Picking, Refusing, Recognition, Singling, Acyclicity, Ascent, Laying, Arranging, Arrangeable, Likeness, Independence, Commutation, Needs, Apart, Progress, Feeding, Ending, Stillness, Restaging};
 ghost use Rattle.plans.specs.Recasting.{Stratifying, OneRecast, Recasting};
-ghost use Rattle.plans.specs.Tiny.{PremisesMet};
+ghost use Rattle.plans.specs.Tiny.{PremisesMet, FurtherPremisesMet};
 
 // A step authorizes every other step of a level exactly where none of them is before it.
 pub fn free_steps_have_none_before() -> u8
@@ -83,6 +85,13 @@ pub fn levels_are_their_places() -> u8
 // A plan of authorized levels can be arranged.
 pub fn authorized_plans_can_be_arranged() -> u8
     ensures { Arranging }
+{
+    0
+}
+
+// A plan can be arranged exactly where its levels are authorized.
+pub fn only_authorized_plans_can_be_arranged() -> u8
+    ensures { Arrangeable }
 {
     0
 }
@@ -181,6 +190,13 @@ pub fn recast_plans_are_accepted_and_at_rest() -> u8
 // What the theorems ask for can be met.
 pub fn premises_can_be_met() -> u8
     ensures { PremisesMet }
+{
+    0
+}
+
+// What the theorems ask for of orders, runs and strata can be met, and a level can have a cycle.
+pub fn further_premises_can_be_met() -> u8
+    ensures { FurtherPremisesMet }
 {
     0
 }
