@@ -1,6 +1,6 @@
 -- The theorems about plans, of every lawful book.
 use Rattle.std.specs.Prelude.{◌≡◌, ℕ, ◌<◌, Bool, true, false, ◌||◌, ◌↔◌, List, [], ◌++◌, length, take, ◌==◌, ◌≢◌, slice_index_or}
-use Rattle.std.specs.List.{AllZip, ContainsAt as Has, flat_map, AllByRecursion as All}
+use Rattle.std.specs.List.{AllZip, ContainsAt as Has, flat_map, AllByRecursion}
 use Rattle.std.specs.List.Sorted.{IsPermutation}
 use Rattle.books.specs.Book.{Model, Lawful, Facts, after}
 use Rattle.plans.specs.Steps.{Authorizes, Disturb, Met}
@@ -66,11 +66,11 @@ Laying = (m : Model) (plan : List (List ℕ)) (o : Places) → Arranged m plan o
 
 -- a plan of authorized levels can be arranged
 abbrev pub Arranging : Type 0
-Arranging = (m : Model) → Lawful m → (plan : List (List ℕ)) → All (Authorized m) plan → (o : Places) × Arranged m plan o
+Arranging = (m : Model) → Lawful m → (plan : List (List ℕ)) → AllByRecursion (Authorized m) plan → (o : Places) × Arranged m plan o
 
 -- a plan can be arranged exactly where its levels are authorized
 abbrev pub Arrangeable : Type 0
-Arrangeable = (m : Model) → Lawful m → (plan : List (List ℕ)) → All (Authorized m) plan ↔ ((o : Places) × Arranged m plan o)
+Arrangeable = (m : Model) → Lawful m → (plan : List (List ℕ)) → AllByRecursion (Authorized m) plan ↔ ((o : Places) × Arranged m plan o)
 
 -- as many places, with the same steps and levels
 pub record Alike (o o' : Places) : Type 0 where
@@ -148,12 +148,12 @@ Calm m xs = (a b : ℕ) → Has xs a → Has xs b → (a ≢ b) → Disturb m a 
 pub record Restaged (m : Model) (E : Facts) (plan strata : List (List ℕ)) : Type 0 where
   pub recognized : Recognized m E strata
   pub same : (p : ℕ) → finally m E strata p ≡ finally m E plan p
-  pub calm : All (Calm m) strata
+  pub calm : AllByRecursion (Calm m) strata
 
 abbrev pub Restaging : Type 0
 Restaging =
     (m : Model) → Lawful m → (o : Places) → InOrder m o → (plan : List (List ℕ)) → Lays o o.level plan → (E : Facts) → Recognized m E plan
-    → (stratum : ℕ → ℕ) → Climbs m o stratum → (strata : List (List ℕ)) → Lays o stratum strata → All Distinct strata
+    → (stratum : ℕ → ℕ) → Climbs m o stratum → (strata : List (List ℕ)) → Lays o stratum strata → AllByRecursion Distinct strata
     → Restaged m E plan strata
 
 -- two different places of one stratum do not disturb each other

@@ -1,6 +1,6 @@
 -- The order inside a level: which step precedes which, and picking always the smallest step that none left precedes.
 use Rattle.std.specs.Prelude.{◌≡◌, ℕ, ◌<◌, List, [], ◌∷◌, ◌≢◌}
-use Rattle.std.specs.List.{ContainsAt as Has, AllByRecursion as All}
+use Rattle.std.specs.List.{ContainsAt as Has, AllByRecursion}
 use Rattle.std.specs.List.Sorted.{IsPermutation}
 use Rattle.books.specs.Book.{Model}
 use Rattle.plans.specs.Steps.{Authorizes}
@@ -17,7 +17,7 @@ module _ (m : Model) where
 
   -- of the steps a and rest, a authorizes every other, and no smaller one does
   pub record Leads (a : ℕ) (rest : List ℕ) : Type 0 where
-    pub ready : All (Authorizes m a) rest
+    pub ready : AllByRecursion (Authorizes m a) rest
     pub smallest : (b : ℕ) → Has rest b → b < a → Free (a ∷ rest) b → ⊥
 
   -- each step leads those that come after it

@@ -1,6 +1,6 @@
 -- Plans: authorized levels, recognition of a plan from its start facts, and acceptance.
 use Rattle.std.specs.Prelude.{◌≡◌, ℕ, ◌<◌, true, List, [], ◌∷◌, ◌≢◌}
-use Rattle.std.specs.List.{AllByRecursion as All}
+use Rattle.std.specs.List.{AllByRecursion}
 use Rattle.std.specs.List.Sorted.{IsPermutation}
 use Rattle.books.specs.Book.{Model, Facts, after}
 use Rattle.plans.specs.Steps.{Authorizes, Met, passed}
@@ -8,7 +8,7 @@ use Rattle.plans.specs.Steps.{Authorizes, Met, passed}
 -- every earlier number is so related to every later one
 abbrev pub Pairwise : (ℕ → ℕ → Type 0) → List ℕ → Type 0
 Pairwise R [] = Unit {0}
-Pairwise R (a ∷ xs) = All (R a) xs × Pairwise R xs
+Pairwise R (a ∷ xs) = AllByRecursion (R a) xs × Pairwise R xs
 
 -- no step stands twice
 abbrev pub Distinct : List ℕ → Type 0
@@ -34,7 +34,7 @@ module _ (m : Model) where
 
   -- the level xs passes from the facts E: every fact that its steps need is held, and it is authorized
   pub record Passes (E : Facts) (xs : List ℕ) : Type 0 where
-    pub met : All (Met m E) xs
+    pub met : AllByRecursion (Met m E) xs
     pub authorized : Authorized xs
 
   -- from the facts E on, every level passes

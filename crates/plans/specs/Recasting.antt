@@ -1,6 +1,6 @@
 -- Recasting: the strata of a plan as levels of a plan again.
 use Rattle.std.specs.Prelude.{◌≡◌, ℕ, ◌+◌, ◌<◌, ◌⊎◌, ◌↔◌, List, length}
-use Rattle.std.specs.List.{AllByRecursion as All}
+use Rattle.std.specs.List.{AllByRecursion}
 use Rattle.books.specs.Book.{Model, Lawful, Facts}
 use Rattle.plans.specs.Plans.{Ascending, Authorized, Accepted, finally}
 use Rattle.plans.specs.Places.{Places, Arranged, Precedes, Lays}
@@ -20,12 +20,12 @@ pub record StrataOf (m : Model) (plan strata : List (List ℕ)) : Type 0 where
   pub climbs : Climbs m places stratum
   pub low : Low m places stratum
   pub lays : Lays places stratum strata
-  pub ascending : All Ascending strata
-  pub some : All (λ xs. 0 < length xs) strata
+  pub ascending : AllByRecursion Ascending strata
+  pub some : AllByRecursion (λ xs. 0 < length xs) strata
 
 -- a plan has strata exactly where its levels are authorized
 abbrev pub Stratifying : Type 0
-Stratifying = (m : Model) → Lawful m → (plan : List (List ℕ)) → All (Authorized m) plan ↔ ((strata : List (List ℕ)) × StrataOf m plan strata)
+Stratifying = (m : Model) → Lawful m → (plan : List (List ℕ)) → AllByRecursion (Authorized m) plan ↔ ((strata : List (List ℕ)) × StrataOf m plan strata)
 
 -- a plan has one list of strata
 abbrev pub OneRecast : Type 0
@@ -37,7 +37,7 @@ pub record Recast (m : Model) (start goal : Facts) (plan strata : List (List ℕ
   pub accepted : Accepted m start goal strata
   pub same : (p : ℕ) → finally m start strata p ≡ finally m start plan p
   -- no two different steps of one level disturb each other
-  pub calm : All (Calm m) strata
+  pub calm : AllByRecursion (Calm m) strata
   -- and they are their own strata
   pub again : StrataOf m strata strata
 

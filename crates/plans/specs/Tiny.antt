@@ -1,6 +1,6 @@
 -- Small books with a plan, its strata and a level that has a cycle: they meet what the theorems ask for.
 use Rattle.std.specs.Prelude.{ℕ, Bool, false, ◌&&◌, ◌||◌, List, [], ◌∷◌, ◌==◌, nat_eq, nat_lt, slice_index}
-use Rattle.std.specs.List.{AllZip, ContainsAt as Has, AllByRecursion as All}
+use Rattle.std.specs.List.{AllZip, ContainsAt as Has, AllByRecursion}
 use Rattle.books.specs.Book.{Model, Lawful}
 use Rattle.plans.specs.Plans.{Distinct, Ascending, AuthorizedOrder, Authorized, Accepted}
 use Rattle.plans.specs.Order.{Before, Free, Picked, Cycle}
@@ -53,13 +53,13 @@ around = 0 ∷ 1 ∷ 2 ∷ []
 -- from fact 0 the plan reaches fact 1
 pub record PremisesMet : Type 0 where
   pub lawful : Lawful tiny
-  pub ascending : All Ascending plan
+  pub ascending : AllByRecursion Ascending plan
   pub accepted : Accepted tiny (λ p. nat_eq p 0) (λ p. nat_eq p 1) plan
   pub arranged : Arranged tiny plan places
   pub precedes : Precedes tiny places 0 1 × Precedes tiny places 0 2
   pub climbs : Climbs tiny places stratum
   pub lays : Lays places stratum strata
-  pub distinct : All Distinct strata
+  pub distinct : AllByRecursion Distinct strata
 
 -- the other premises: those about orders, runs and strata, and a level with a cycle
 pub record FurtherPremisesMet : Type 0 where
