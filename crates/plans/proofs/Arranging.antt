@@ -1,6 +1,6 @@
 -- Places that are the picked orders of a plan's levels: one more level, and what holds of them.
 use Rattle.std.proofs.Common.{◌≡◌, ℕ, suc, ◌+◌, ◌-◌, ◌<◌, ◌≤◌, List, [], ◌∷◌, ◌++◌, length, get_or, replicate, sym, refl, ◌∙◌, subst, inl, inr, arith}
-use Rattle.std.specs.List.{AllByRecursion as All}
+use Rattle.std.specs.List.{AllByRecursion}
 use Rattle.std.proofs.ByRecursion.{has_get_or, has_shuffled}
 use Rattle.std.proofs.lemmas.List.{length-append, get_or_append_left, get_or-append-add, length-replicate, get_or-replicate}
 use Rattle.std.proofs.lemmas.List.Sorted.{IsPermutation-sym}
@@ -206,7 +206,7 @@ module _ (m : Model) where
       level = λ k l. rw (← same) (get_or-append-add levels (replicate (length bs) i) k 0 ∙ get_or-replicate (length bs) k i 0 l);
     }
 
-  goes_on : Lawful m → (plan : List (List ℕ)) → All (Authorized m) plan → (steps levels : List ℕ) (i : ℕ) → length levels ≡ length steps → Goes_on steps levels i plan
+  goes_on : Lawful m → (plan : List (List ℕ)) → AllByRecursion (Authorized m) plan → (steps levels : List ℕ) (i : ℕ) → length levels ≡ length steps → Goes_on steps levels i plan
   unfolding listed
   goes_on law [] a steps levels i e =
       record { places = listed steps levels; agree = record { step = λ u l. refl; level = λ u l. refl }; arranged = refl }
@@ -221,7 +221,7 @@ module _ (m : Model) where
         arranged = (bs, t.1, stands_kept _ r.places (length steps) i bs (subst (λ n. Agree n (listed (steps' steps levels bs i e) (levels' steps levels bs i e)) r.places) l r.agree) (stands' steps levels bs i e), rw l at r.arranged);
       }
 
-authorized_from : (m : Model) → Lawful m → (o : Places) (n i : ℕ) (plan : List (List ℕ)) → ArrangedFrom m o n i plan → All (Authorized m) plan
+authorized_from : (m : Model) → Lawful m → (o : Places) (n i : ℕ) (plan : List (List ℕ)) → ArrangedFrom m o n i plan → AllByRecursion (Authorized m) plan
 authorized_from m law o n i [] a = tt
 authorized_from m law o n i (xs ∷ rest) a = ((reaching m law xs).1 (a.0, a.1), authorized_from m law o (n + length a.0) (suc i) rest a.3)
 

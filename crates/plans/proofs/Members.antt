@@ -1,6 +1,6 @@
 -- Members of lists of steps: taking one out, lists that are distinct, lists with the same members.
 use Rattle.std.proofs.Common.{◌≡◌, ℕ, zero, suc, ◌+◌, ◌<◌, ◌≤◌, cond, eqb, ◌⊎◌, List, [], ◌∷◌, length, get_or, sum_by, sym, refl, subst, ap₂, inl, inr, arith}
-use Rattle.std.specs.List.{ContainsAt as Has, HoldsAt, AllByRecursion as All}
+use Rattle.std.specs.List.{ContainsAt as Has, HoldsAt, AllByRecursion}
 use Rattle.std.specs.List.Sorted.{IsPermutation}
 use Rattle.std.proofs.ByRecursion.{all-has, All-get_or, All-weaker, all_shuffled, has_shuffled}
 use Rattle.std.proofs.lemmas.List.Sorted.{IsPermutation-refl, IsPermutation-cons, IsPermutation-trans, IsPermutation-swap, sum_by-IsPermutation, IsPermutation-sym}
@@ -67,14 +67,14 @@ tally_shuffled : (a : ℕ) (xs ys : List ℕ) → IsPermutation xs ys → tally 
 unfolding tally
 tally_shuffled a xs ys s = sum_by-IsPermutation (λ x. cond (eqb x a) 1 0) xs ys s
 
-tally_none : (a : ℕ) (xs : List ℕ) → All (λ b. a ≡ b → ⊥) xs → tally a xs ≡ 0
+tally_none : (a : ℕ) (xs : List ℕ) → AllByRecursion (λ b. a ≡ b → ⊥) xs → tally a xs ≡ 0
 tally_none a [] d = tally_empty a
 tally_none a (x ∷ xs) d =
     let e = ne_eqb x a (λ q. d.0 (sym q)) in
     let f = rw e at (tally_cons a x xs) in
     let ih = tally_none a xs d.1 in omega arith
 
-none_tally : (a : ℕ) (xs : List ℕ) → tally a xs ≡ 0 → All (λ b. a ≡ b → ⊥) xs
+none_tally : (a : ℕ) (xs : List ℕ) → tally a xs ≡ 0 → AllByRecursion (λ b. a ≡ b → ⊥) xs
 none_tally a [] e = tt
 none_tally a (x ∷ xs) e = (
   λ q. (let f = subst (λ y. tally a (y ∷ xs) ≡ 0) (sym q) e in omega (arith, tally_same a xs)),

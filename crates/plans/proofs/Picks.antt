@@ -1,6 +1,6 @@
 -- The picked order of a level: that it is in turn, exists where the level is authorized, and is the only one.
 use Rattle.std.proofs.Common.{◌≡◌, ℕ, zero, suc, ◌<◌, Bool, true, eqb, List, [], ◌∷◌, ◌++◌, length, sym, refl, ◌∙◌, subst, ap₂, inl, inr, arith}
-use Rattle.std.specs.List.{ContainsAt as Has, AllByRecursion as All}
+use Rattle.std.specs.List.{ContainsAt as Has, AllByRecursion}
 use Rattle.std.specs.List.Sorted.{IsPermutation}
 use Rattle.std.proofs.ByRecursion.{all-has, all_has_itself, All-weaker, has_append_right, has_shuffled}
 use Rattle.std.proofs.lemmas.List.Sorted.{IsPermutation-refl, IsPermutation-cons, IsPermutation-trans, IsPermutation-sym, length_permutation}
@@ -33,7 +33,7 @@ module _ (m : Model) where
   free_among xs ys a f g b h = g b (f b h)
 
   -- the first step in turn is free
-  pub first_free : (x : ℕ) (xs : List ℕ) → All (Authorizes m x) xs → Free m (x ∷ xs) x
+  pub first_free : (x : ℕ) (xs : List ℕ) → AllByRecursion (Authorizes m x) xs → Free m (x ∷ xs) x
   first_free x xs w b h n = elim (has_cases x xs b h) [ inl q ↦ absurd (n q) | inr i ↦ all-has (Authorizes m x) xs b w i ]
 
   -- the smallest free step leads the others, if it stands once

@@ -1,6 +1,6 @@
 -- The strata of a plan as levels: there is one list of them, they are accepted where the plan is, and they are their own strata.
 use Rattle.std.proofs.Common.{◌≡◌, ℕ, zero, suc, ◌<◌, ◌≤◌, List, [], ◌∷◌, length, get_or, sym, refl, ◌∙◌, subst, ap₂, inl, inr, arith}
-use Rattle.std.specs.List.{ContainsAt as Has, AllByRecursion as All}
+use Rattle.std.specs.List.{ContainsAt as Has, AllByRecursion}
 use Rattle.std.proofs.ByRecursion.{All-get_or, All-weaker, has_get_or}
 use Rattle.books.specs.Book.{Model, Facts}
 use Rattle.plans.specs.Steps.{passed}
@@ -43,8 +43,8 @@ lowest m o up low other f climbs (suc n) u l k =
     ]
 
 -- the places by rank make one plan of ascending levels with at least one step
-one_plan : (o : Places) (rank : ℕ → ℕ) (s : ℕ) (xs ys : List (List ℕ)) → LaysFrom o rank s xs → LaysFrom o rank s ys → All Ascending xs → All Ascending ys
-    → All (λ l. 0 < length l) xs → All (λ l. 0 < length l) ys → xs ≡ ys
+one_plan : (o : Places) (rank : ℕ → ℕ) (s : ℕ) (xs ys : List (List ℕ)) → LaysFrom o rank s xs → LaysFrom o rank s ys → AllByRecursion Ascending xs → AllByRecursion Ascending ys
+    → AllByRecursion (λ l. 0 < length l) xs → AllByRecursion (λ l. 0 < length l) ys → xs ≡ ys
 one_plan o rank s [] [] k l a b i j = refl
 one_plan o rank s [] (y ∷ ys) k l a b i j = let w = l.0.only (get_or y 0 0) (has_get_or y 0 0 j.0) in absurd (omega (arith, w.2, k w.0 w.1))
 one_plan o rank s (x ∷ xs) [] k l a b i j = let w = k.0.only (get_or x 0 0) (has_get_or x 0 0 i.0) in absurd (omega (arith, w.2, l w.0 w.1))
@@ -71,7 +71,7 @@ one_recast m plan xs ys s t =
     s.ascending t.ascending s.some t.some
 
 -- the levels of a recognized plan are authorized
-pub all_authorized : (m : Model) (E : Facts) (plan : List (List ℕ)) → Recognized m E plan → All (Authorized m) plan
+pub all_authorized : (m : Model) (E : Facts) (plan : List (List ℕ)) → Recognized m E plan → AllByRecursion (Authorized m) plan
 all_authorized m E [] r = tt
 all_authorized m E (xs ∷ plan) r = (r.0.authorized, all_authorized m (passed m E xs) plan r.1)
 
@@ -80,7 +80,7 @@ other_steps : (m : Model) (o : Places) → InOrder m o → (u v : ℕ) → u < o
 other_steps m o up u v k l e n q =
     omega (arith, up.upward u v k l (inl (e, n, λ w. w.other (sym q))), up.upward v u l k (inl (sym e, (λ d. n (sym d)), λ w. w.other q)))
 
-module _ (m : Model) (strata : List (List ℕ)) (o : Places) (arranged : Arranged m strata o) (calm : All (Calm m) strata) where
+module _ (m : Model) (strata : List (List ℕ)) (o : Places) (arranged : Arranged m strata o) (calm : AllByRecursion (Calm m) strata) where
   -- places of calm levels precede only places of higher levels
   climbs_levels : Climbs m o o.level
   climbs_levels u v k l (inr s) = s.0

@@ -1,7 +1,7 @@
 -- Steps done singly, in an authorized order of each level, leave what the levels leave.
 use Rattle.std.proofs.Common.{◌≡◌, ℕ, Bool, true, not, ◌&&◌, ◌||◌, List, [], ◌∷◌, ◌++◌, refl, ap, ◌∙◌, ap₂, inl, inr, arith}
 use mathlib.Core.Path.{fun_ext}
-use Rattle.std.specs.List.{ContainsAt as Has, AllZip, flat_map, AllByRecursion as All}
+use Rattle.std.specs.List.{ContainsAt as Has, AllZip, flat_map, AllByRecursion}
 use Rattle.std.specs.List.Sorted.{IsPermutation}
 use Rattle.std.proofs.ByRecursion.{all-has, has_shuffled}
 use Rattle.std.proofs.lemmas.List.Sorted.{IsPermutation-sym}
@@ -31,7 +31,7 @@ module _ (m : Model) where
   passed_shuffled E xs bs s p =
       ap₂ (λ d a. (E p && not d) || a) (some_shuffled (λ a. m.deletes a p) xs bs s) (some_shuffled (λ a. m.adds a p) xs bs s)
 
-  passed_more : (E : Facts) (a : ℕ) (bs : List ℕ) → All (Authorizes m a) bs → (p : ℕ) → passed m (after m E a) bs p ≡ passed m E (a ∷ bs) p
+  passed_more : (E : Facts) (a : ℕ) (bs : List ℕ) → AllByRecursion (Authorizes m a) bs → (p : ℕ) → passed m (after m E a) bs p ≡ passed m E (a ∷ bs) p
   passed_more E a bs w p =
       first_bits (E p) (m.adds a p) (m.deletes a p) (some (λ b. m.adds b p) bs) (some (λ b. m.deletes b p) bs)
       (λ e d. let t = some_found (λ b. m.deletes b p) bs d in (all-has (Authorizes m a) bs t.0 w t.1).adding p e t.2)

@@ -1,6 +1,6 @@
 -- The strata as levels are a recognized plan that leaves the same facts.
 use Rattle.std.proofs.Common.{◌≡◌, ℕ, suc, ◌<◌, List, [], ◌∷◌, sym, ap, ◌∙◌, subst, subst₂, inl, inr, arith}
-use Rattle.std.specs.List.{ContainsAt as Has, AllByRecursion as All}
+use Rattle.std.specs.List.{ContainsAt as Has, AllByRecursion}
 use Rattle.std.proofs.ByRecursion.{all_has_itself, All-weaker}
 use Rattle.std.proofs.lemmas.List.Sorted.{IsPermutation-refl}
 use Rattle.std.proofs.lemmas.Bool.{lt-ltb, ltb-true, le-ltb}
@@ -22,11 +22,11 @@ authorizes m a b f =
 
 -- distinct steps that do not disturb each other are in turn
 module _ (m : Model) (xs : List ℕ) (calm : Calm m xs) where
-  first_of : (a : ℕ) → Has xs a → (ys : List ℕ) → All (Has xs) ys → All (λ b. a ≡ b → ⊥) ys → All (Authorizes m a) ys
+  first_of : (a : ℕ) → Has xs a → (ys : List ℕ) → AllByRecursion (Has xs) ys → AllByRecursion (λ b. a ≡ b → ⊥) ys → AllByRecursion (Authorizes m a) ys
   first_of a h [] hs ds = tt
   first_of a h (b ∷ ys) hs ds = (authorizes m a b (calm a b h hs.0 ds.0), first_of a h ys hs.1 ds.1)
 
-  pub in_turn : (ys : List ℕ) → All (Has xs) ys → Distinct ys → InTurn m ys
+  pub in_turn : (ys : List ℕ) → AllByRecursion (Has xs) ys → Distinct ys → InTurn m ys
   in_turn [] hs ds = tt
   in_turn (a ∷ ys) hs ds = (first_of a hs.0 ys hs.1 ds.0, in_turn ys hs.1 ds.1)
 
@@ -42,11 +42,11 @@ module _ (m : Model) (law : Lawful m) (o : Places) (up : InOrder m o) (E : Facts
       stillness m o stratum climbs w.0 x.0 w.1 x.1 (λ q. n (sym w.3 ∙ ap o.step q ∙ x.3)) (w.2 ∙ sym x.2)
       (subst₂ (Disturb m) (sym w.3) (sym x.3) d)
 
-  pub all_calm : (s : ℕ) (plan : List (List ℕ)) → LaysFrom o stratum s plan → All (Calm m) plan
+  pub all_calm : (s : ℕ) (plan : List (List ℕ)) → LaysFrom o stratum s plan → AllByRecursion (Calm m) plan
   all_calm s [] l = tt
   all_calm s (xs ∷ rest) l = (calm s xs l.0, all_calm (suc s) rest l.1)
 
-  pub recognized : (s : ℕ) (plan : List (List ℕ)) (F : Facts) → LaysFrom o stratum s plan → Leaves m o E stratum s F → All Distinct plan → Recognized m F plan
+  pub recognized : (s : ℕ) (plan : List (List ℕ)) (F : Facts) → LaysFrom o stratum s plan → Leaves m o E stratum s F → AllByRecursion Distinct plan → Recognized m F plan
   recognized s [] F l e d = tt
   recognized s (xs ∷ rest) F l e d = (
     record {

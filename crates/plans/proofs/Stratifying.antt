@@ -1,6 +1,6 @@
 -- Every plan of authorized levels has strata.
 use Rattle.std.proofs.Common.{◌≡◌, ℕ, zero, suc, ◌+◌, ◌-◌, ◌<◌, ◌≤◌, cond, eqb, ◌⊎◌, List, [], ◌∷◌, length, sym, refl, ◌∙◌, subst, inl, inr, arith}
-use Rattle.std.specs.List.{ContainsAt as Has, AllByRecursion as All}
+use Rattle.std.specs.List.{ContainsAt as Has, AllByRecursion}
 use Rattle.std.proofs.ByRecursion.{All-weaker, all-has, all_has_itself}
 use Rattle.std.proofs.lemmas.Bool.{cases_lt, cases_eq, cases_order, eq-eqb, ne_eqb}
 use Rattle.books.specs.Book.{Model, Lawful}
@@ -181,8 +181,8 @@ module _ (o : Places) (rank : ℕ → ℕ) where
   record Rows (s : ℕ) : Type 0 where
     pub plan : List (List ℕ)
     pub lays : LaysFrom o rank s plan
-    pub ascending : All Ascending plan
-    pub some : All (λ xs. 0 < length xs) plan
+    pub ascending : AllByRecursion Ascending plan
+    pub some : AllByRecursion (λ xs. 0 < length xs) plan
 
   rows : (height : ℕ) → ((u : ℕ) → u < o.size → rank u < height) → Filled height → (k s : ℕ) → s + k ≡ height → Rows s
   rows height above filled zero s e = record { plan = []; lays = λ u l. omega (arith, above u l); ascending = tt; some = tt }

@@ -1,7 +1,7 @@
 -- The small books, the plan, its strata and the level with a cycle meet what the theorems ask for.
 use Rattle.std.proofs.Common.{◌≡◌, ℕ, zero, suc, ◌+◌, ◌<◌, ◌≤◌, true, false, eqb, [], ◌∷◌, get_or, sym, refl, subst, inl, inr, arith}
 use mathlib.Core.Bool.{false≢true}
-use Rattle.std.specs.List.{ContainsAt as Has, AllByRecursion as All}
+use Rattle.std.specs.List.{ContainsAt as Has, AllByRecursion}
 use Rattle.std.proofs.lemmas.List.Sorted.{IsPermutation-refl, IsPermutation-swap}
 use Rattle.std.proofs.lemmas.Bool.{eq-eqb, eqb-true}
 use Rattle.std.proofs.lemmas.Bool.Decides.{nat_tests}
@@ -201,7 +201,7 @@ ready_third zero k q = refl
 ready_third (suc zero) k q = absurd (second_third q)
 ready_third (suc (suc u)) k q = absurd (omega (arith, in_order.upward (suc (suc u)) 2 k (omega arith) q))
 
-ascending : All Ascending strata
+ascending : AllByRecursion Ascending strata
 ascending = ((tt, tt), (((omega arith, tt), (tt, tt)), tt))
 
 ring_lawful : Lawful ring
