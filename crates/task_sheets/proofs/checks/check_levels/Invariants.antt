@@ -5,5 +5,5 @@ use Rattle.task_sheets.proofs.checks.check_levels.Given as goal
 
 abbrev pub invariant-loop-i : goal.invariant-loop-i
 invariant-loop-i l =
-    (levels l.bytes l.-i ≡ fine) × (l.reached.at ≡ level_begins_at l.bytes l.-i) × (l.reached.at ≤ length l.bytes)
-    × (l.reached.steps ≡ steps_before l.bytes l.-i) × (l.reached.steps ≤ l.counts.total)
+    (levels l.bytes l._i ≡ fine) × (l.reached.at ≡ level_begins_at l.bytes l._i) × (l.reached.at ≤ length l.bytes)
+    × (l.reached.steps ≡ steps_before l.bytes l._i) × (l.reached.steps ≤ l.counts.total)

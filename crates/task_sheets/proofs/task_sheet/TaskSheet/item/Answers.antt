@@ -10,10 +10,10 @@ pub part-requires-in-Goal : goal.part-requires-in-Goal
 part-requires-in-Goal c =
     let xs = c.args.self.now.bytes.now in
     let g = sheet_good xs c.args.self.now.passes in
-    subst (λ v. past xs v ≤ length xs) (sym (c.get-u32.ensures ∙ g.goal_place)) g.goal_list.end
+    subst (λ v. past xs v ≤ length xs) (sym (c.get_u32.ensures ∙ g.goal_place)) g.goal_list.end
 
-pub level-at-requires : goal.level-at-requires
-level-at-requires c =
+pub level_at-requires : goal.level_at-requires
+level_at-requires c =
     let xs = c.args.self.now.bytes.now in
     omega (arith, c.levels-most.ensures.says, length_levels_from xs (level_begins_at xs 0) (be16 xs 4))
 
@@ -21,7 +21,7 @@ pub part-requires-in-Level : goal.part-requires-in-Level
 part-requires-in-Level c =
     let xs = c.args.self.now.bytes.now in
     let l : c.in-Level.n - 1 < be16 xs 4 = omega (arith, c.levels-most.ensures.says, length_levels_from xs (level_begins_at xs 0) (be16 xs 4)) in
-    subst (λ v. past xs v ≤ length xs) (sym c.level-at.ensures) (level_end xs (sheet_good xs c.args.self.now.passes) (c.in-Level.n - 1) l)
+    subst (λ v. past xs v ≤ length xs) (sym c.level_at.ensures) (level_end xs (sheet_good xs c.args.self.now.passes) (c.in-Level.n - 1) l)
 
 pub returns-then-n-eq0 : goal.returns-then-n-eq0
 returns-then-n-eq0 c =
@@ -43,7 +43,7 @@ pub returns-in-Goal : goal.returns-in-Goal
 returns-in-Goal c =
     let xs = c.args.self.now.bytes.now in
     let g = sheet_good xs c.args.self.now.passes in
-    let e = goal_lies xs c.part-in-Goal.result.now c.get-u32.result (c.get-u32.ensures ∙ g.goal_place) c.part-in-Goal.ensures in
+    let e = goal_lies xs c.part-in-Goal.result.now c.get_u32.result (c.get_u32.ensures ∙ g.goal_place) c.part-in-Goal.ensures in
     rw (c.in-Goal.is, c.if-not-self.false) (record { lies = (refl, e); says = part_said xs c.part-in-Goal.result.now (goal_at xs) g.goal_list.end e })
 
 pub returns-else-n-most : goal.returns-else-n-most
@@ -54,9 +54,9 @@ returns-else-n-most c =
     let bs = c.part-in-Level.result.now in
     let some : 0 < n = omega arith in
     let few : n ≤ be16 xs 4 = omega (arith, c.levels-most.ensures.says, length_levels_from xs (level_begins_at xs 0) (be16 xs 4)) in
-    let e = c.part-in-Level.ensures ∙ ap (λ v. between v (past xs v) xs) c.level-at.ensures in
+    let e = c.part-in-Level.ensures ∙ ap (λ v. between v (past xs v) xs) c.level_at.ensures in
     rw (c.in-Level.is, c.if-not-self.false)
     (record {
-      lies = (such_level xs g n some few, level_lies xs g bs n c.level-at.result some c.level-at.ensures c.part-in-Level.ensures);
+      lies = (such_level xs g n some few, level_lies xs g bs n c.level_at.result some c.level_at.ensures c.part-in-Level.ensures);
       says = part_said xs bs (level_begins_at xs (n - 1)) (level_end xs g (n - 1) (omega arith)) e ∙ sym (level_list xs g n some few);
     })

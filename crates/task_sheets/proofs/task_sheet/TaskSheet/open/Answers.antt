@@ -10,7 +10,7 @@ returns-in-Ok c =
     record {
       verdict = ap (verdict_on Task) p;
       after = record { opened = refl; bytes = refl };
-      law = says_one c.args.bytes.now (λ i. (c.type-inv.bytes i).fits) (ap is_ok (sym p));
+      law = says_one c.args.bytes.now (λ i. (c.type_inv.bytes i).fits) (ap is_ok (sym p));
       one = one_sheet_each;
     }
 
