@@ -1,5 +1,5 @@
 -- The parts of a task sheet that passes.
-use Rattle.std.proofs.Common.{◌≡◌, ℕ, zero, suc, ◌+◌, ◌-◌, ◌<◌, ◌≤◌, true, false, ltb, leb, ◌⊎◌, List, [], length, sym, refl, ap, ◌∙◌, inl, inr, arith}
+use Rattle.std.proofs.Common.{◌≡◌, ℕ, zero, suc, ◌+◌, ◌-◌, ◌<◌, ◌≤◌, true, false, ltb, leb, ◌⊎◌, List, [], length, sym, refl, ap, ◌∙◌, subst, inl, inr, arith}
 use Rattle.std.specs.List.{between}
 use Rattle.std.proofs.lemmas.Bool.{lt-ltb, le-ltb, le-leb, lt-leb, and_from, and_left, and_right}
 use Rattle.std.proofs.lemmas.List.{get_or_past}
@@ -25,6 +25,9 @@ goal_lies xs bs at e h = h ∙ ap (λ v. between v (past xs v) xs) e
 module _ (xs : List ℕ) (g : GoodSheet xs) where
   pub level_end : (i : ℕ) → i < be16 xs 4 → past xs (level_begins_at xs i) ≤ length xs
   level_end i l = (g.each i l).list.end
+
+  pub level_ends : (i at : ℕ) → at ≡ level_begins_at xs i → i < be16 xs 4 → past xs at ≤ length xs
+  level_ends i at e l = subst (λ v. past xs v ≤ length xs) (sym e) (level_end i l)
 
   pub level_list : (n : ℕ) → 0 < n → n ≤ be16 xs 4 → list_of (content xs) (Level n) ≡ list_at xs (level_begins_at xs (n - 1))
   level_list zero l k = absurd (omega arith)

@@ -90,7 +90,7 @@ fn reads(rt: HostRuntime) -> Result<(), Fail> {
     let Some(Item::Level(part)) = sheet.item(Part::Level(2)) else {
         return Err(Fail::new("no second level"));
     };
-    assert!(rt; part == [0, 2, 0, 1, 0, 4]);
+    assert!(rt; part == [0, 2, 0, 1, 0, 4].as_slice());
     Ok(())
 }
 

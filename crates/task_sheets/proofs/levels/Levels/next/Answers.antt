@@ -1,4 +1,4 @@
-use Rattle.std.proofs.Common.{arith}
+use Rattle.std.proofs.Common.{rules, arith}
 use Rattle.task_sheets.proofs.Laws.{next_fits, turn_fits, turn_is}
 use Rattle.task_sheets.proofs.levels.Levels.next.Goals as goal
 
@@ -13,7 +13,8 @@ overflow_add-end c = omega (arith, next_fits c.args.self.now.bytes.now c.args.se
 
 pub invariant_of-self : goal.invariant_of-self
 invariant_of-self c =
-    record { room = turn_fits c.args.self.now.bytes.now c.args.self.now.at c.args.self.now.left c.get_u16.result (omega arith) c.get_u16.ensures c.args.self.now.room }
+    let fits_on = turn_fits c.args.self.now.bytes.now c.args.self.now.at c.args.self.now.left c.get_u16.result (omega arith) c.get_u16.ensures c.args.self.now.room in
+    record { room = search (rules, fits_on) }
 
 pub slice_bounds-new-end : goal.slice_bounds-new-end
 slice_bounds-new-end c = omega (arith, next_fits c.args.self.now.bytes.now c.args.self.now.at c.args.self.now.left (omega arith) c.args.self.now.room, c.get_u16.ensures)

@@ -3,7 +3,7 @@ use Rattle.std.specs.List.{between}
 use Rattle.sheets.specs.Fields.{be16}
 use Rattle.task_sheets.specs.Layout.{past, start_at, goal_at, level_begins_at}
 use Rattle.task_sheets.proofs.Sound.{sheet_good, length_levels_from}
-use Rattle.task_sheets.proofs.Items.{part_said, goal_lies, level_end, level_list, no_level, such_level, level_lies}
+use Rattle.task_sheets.proofs.Items.{part_said, goal_lies, level_end, level_ends, level_list, no_level, such_level, level_lies}
 use Rattle.task_sheets.proofs.task_sheet.TaskSheet.item.Goals as goal
 
 pub part-requires-in-Goal : goal.part-requires-in-Goal
@@ -20,8 +20,7 @@ level_at-requires c =
 pub part-requires-in-Level : goal.part-requires-in-Level
 part-requires-in-Level c =
     let xs = c.args.self.now.bytes.now in
-    let l : c.in-Level.n - 1 < be16 xs 4 = omega (arith, c.levels-most.ensures.says, length_levels_from xs (level_begins_at xs 0) (be16 xs 4)) in
-    subst (λ v. past xs v ≤ length xs) (sym c.level_at.ensures) (level_end xs (sheet_good xs c.args.self.now.passes) (c.in-Level.n - 1) l)
+    level_ends xs (sheet_good xs c.args.self.now.passes) _ _ c.level_at.ensures (omega (arith, c.levels-most.ensures.says, length_levels_from xs (level_begins_at xs 0) (be16 xs 4)))
 
 pub returns-then-n-eq0 : goal.returns-then-n-eq0
 returns-then-n-eq0 c =
