@@ -1,7 +1,7 @@
 -- The encoding of a lawful task passes, and says that task.
 use Rattle.std.proofs.Common.{◌≡◌, ℕ, zero, suc, ◌+◌, ◌*◌, ◌<◌, ◌≤◌, not, eqb, leb, List, [], ◌∷◌, ◌++◌, length, get_or, drop, is_ok, sym, refl, ap, ◌∙◌, inl, inr, arith, length-append}
 use Rattle.std.proofs.lemmas.Bool.{cases_eq, le-leb, ne_eqb, not_from_false}
-use Rattle.std.specs.List.{AllByRecursion as All}
+use Rattle.std.specs.List.{AllByRecursion}
 use Rattle.sheets.specs.declared.fault.Refusal.TheVariants.{EmptyLevel, WrongTotal, Trailing}
 use Rattle.sheets.specs.Verdicts.{must, ◌then◌}
 use Rattle.sheets.specs.Fields.{be16, be32, two, four, twos, field, limit, offset}
@@ -85,7 +85,7 @@ pub record SaidLevels (xs : List ℕ) (i at s : ℕ) (pss : List (List ℕ)) : T
   pub ends : level_begins_at xs (i + length pss) ≡ at + length (plan_bytes pss)
 
 levels_said : (xs : List ℕ) (bound most : ℕ) → be16 xs 2 ≡ bound → be16 xs 6 ≡ most → (i at s : ℕ) (pss : List (List ℕ)) (k : ℕ) → Stands xs at (plan_bytes pss) k
-    → level_begins_at xs i ≡ at → steps_before xs i ≡ s → s + total pss ≤ most → All (LawfulLevel bound) pss → SaidLevels xs i at s pss
+    → level_begins_at xs i ≡ at → steps_before xs i ≡ s → s + total pss ≤ most → AllByRecursion (LawfulLevel bound) pss → SaidLevels xs i at s pss
 levels_said xs bound most eb em i at s [] k h e t l w =
     let z : i + 0 ≡ i = omega arith in
     let z' : at ≡ at + 0 = omega arith in

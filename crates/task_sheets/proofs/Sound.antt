@@ -1,7 +1,7 @@
 -- What a task sheet that passes is known to be.
 use Rattle.std.proofs.Common.{◌≡◌, ℕ, zero, suc, ◌+◌, ◌<◌, ◌≤◌, not, eqb, leb, List, length, sym, refl, ap, ◌∙◌, arith, rules}
 use Rattle.std.proofs.lemmas.Bool.{leb-true, eqb-false, not-true}
-use Rattle.std.specs.List.{AllByRecursion as All}
+use Rattle.std.specs.List.{AllByRecursion}
 use Rattle.sheets.specs.declared.fault.Refusal.TheVariants.{EmptyLevel, WrongTotal, Trailing}
 use Rattle.sheets.specs.Verdicts.{Verdict, must, ◌then◌}
 use Rattle.sheets.specs.Fields.{be16, be32, field, offset}
@@ -138,7 +138,7 @@ total_levels_from xs i (suc n) =
     e ∙ h ∙ ap (steps_before xs) z
 
 module _ (xs : List ℕ) (g : GoodSheet xs) where
-  lawful_levels : (i n : ℕ) → i + n ≡ be16 xs 4 → All (LawfulLevel (be16 xs 2)) (levels_from xs (level_begins_at xs i) n)
+  lawful_levels : (i n : ℕ) → i + n ≡ be16 xs 4 → AllByRecursion (LawfulLevel (be16 xs 2)) (levels_from xs (level_begins_at xs i) n)
   lawful_levels i zero e = tt
   lawful_levels i (suc n) e =
       let l = g.each i (omega arith) in

@@ -1,6 +1,6 @@
 -- What a task sheet says, and the bytes that say it.
 use Rattle.std.specs.Prelude.{ℕ, zero, suc, ◌+◌, ◌*◌, ◌<◌, ◌≤◌, List, [], ◌∷◌, ◌++◌, length}
-use Rattle.std.specs.List.{AllByRecursion as All}
+use Rattle.std.specs.List.{AllByRecursion}
 use Rattle.sheets.specs.Fields.{be16, two, four, twos}
 use Rattle.sheets.specs.Lists.{numbers_at, Ascending}
 use Rattle.task_sheets.specs.Layout.{past, start_at, goal_at, level_begins_at}
@@ -73,4 +73,4 @@ pub record LawfulTask (t : Task) : Type 0 where
   pub few_in_all : total t.levels ≤ 256
   pub start : Ascending t.facts t.start
   pub goal : Ascending t.facts t.goal
-  pub each : All (LawfulLevel t.steps) t.levels
+  pub each : AllByRecursion (LawfulLevel t.steps) t.levels
