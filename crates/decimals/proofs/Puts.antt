@@ -1,5 +1,5 @@
 -- Text put piece by piece.
-use Rattle.std.proofs.Common.{◌≡◌, ℕ, ◌+◌, List, [], ◌++◌, length, sym, ap, ◌∙◌, subst, arith, length-append}
+use Rattle.std.proofs.Common.{◌≡◌, ℕ, List, [], ◌++◌, length, sym, ap, ◌∙◌, subst, arith, length-append}
 use Rattle.sheets.specs.Writing.{written}
 use Rattle.sheets.proofs.Buffers.{written_on, written_none}
 use Rattle.decimals.specs.Texts.{Puts}

@@ -13,7 +13,7 @@ pub loop-i-preserved : goal.loop-i-preserved
 loop-i-preserved c =
     let ws = c.words-words.result in
     let i = c.loop-i.i in
-    let one : Wrote c.loop-i.out c.loop-i.next (word_of (get_or ws i 0)) c.put-bytes-next.new.out c.put-bytes-next.result = search rules in
+    let one : Wrote c.loop-i.out c.loop-i.next (word_of (get_or ws i 0)) c.put_bytes-next.new.out c.put_bytes-next.result = search rules in
     let h : c.args.at ≤ length c.args.out.now = omega arith in
     let p = one.place in
     (c.loop-i.invariant.0, omega arith, wrote_as (word_more ws i (omega (arith, c.loop-i.invariant.0))) (wrote_on h c.loop-i.invariant.2 one))

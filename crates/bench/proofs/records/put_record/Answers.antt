@@ -7,9 +7,9 @@ returns g c =
     let h : c.args.at ≤ length c.args.out.now = omega arith in
     record {
       bytes = record {
-        words = c.facts-on.result.words;
-        facts = c.facts-on.ensures;
-        wrote = wrote_on h (wrote_as c.reply-bytes.ensures c.put-bytes-at.ensures) c.put-facts.ensures.bytes;
+        words = c.facts_on.result.words;
+        facts = c.facts_on.ensures;
+        wrote = wrote_on h (wrote_as c.reply_bytes.ensures c.put_bytes-at.ensures) c.put_facts.ensures.bytes;
       };
       place = search rules;
     }

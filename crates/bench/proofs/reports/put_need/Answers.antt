@@ -5,4 +5,4 @@ use Rattle.bench.proofs.reports.put_need.Goals as goal
 pub returns : goal.returns
 returns c =
     let h : c.args.at ≤ length c.args.out.now = omega arith in
-    wrote_on h (wrote_on h c.put-number-at.ensures c.put-number-at-2.ensures) c.put-number.ensures
+    wrote_on h (wrote_on h c.put_number-at.ensures c.put_number-at-2.ensures) c.put_number.ensures

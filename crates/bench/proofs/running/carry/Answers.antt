@@ -9,11 +9,11 @@ loop-i-init g c = record { plan = refl; spanned = refl; place = refl; bytes = []
 pub loop-i-preserved : goal.loop-i-preserved
 loop-i-preserved g c =
     let e = c.reply-answer.ensures in
-    let put = c.put-record-at.ensures in
+    let put = c.put_record-at.ensures in
     so_far_more (g.B.Book.model c.args.book.now) _ _ _ c.args.card.now _ c.loop-i.card _ c.reply-answer.new.card _
-    c.args.script.now c.args.out.now c.loop-i.i c.loop-i.out c.loop-i.at c.request-at.result c.reply-answer.result
-    put.bytes.words c.put-record-at.new.out c.put-record-at.result
-    c.requires.numbered c.loop-i.invariant e.plan e.span e.replied c.request-at.ensures put.bytes.facts put.bytes.wrote put.place
+    c.args.script.now c.args.out.now c.loop-i.i c.loop-i.out c.loop-i.at c.request_at.result c.reply-answer.result
+    put.bytes.words c.put_record-at.new.out c.put_record-at.result
+    c.requires.numbered c.loop-i.invariant e.plan e.span e.replied c.request_at.ensures put.bytes.facts put.bytes.wrote put.place
 
 pub returns : goal.returns
 returns g c =

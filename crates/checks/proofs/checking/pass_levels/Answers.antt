@@ -15,8 +15,8 @@ overflow-add-number g c =
     let w = (sheet_lawful c.args.task.now).few_levels in
     omega arith
 
-pub copy-steps-count-requires : goal.copy-steps-count-requires
-copy-steps-count-requires g c =
+pub copy_steps-count-requires : goal.copy_steps-count-requires
+copy_steps-count-requires g c =
     let t = task_of c.args.task.now in
     let w = sheet_lawful c.args.task.now in
     let ps = numbers_of c.in-Some.level in
@@ -25,22 +25,22 @@ copy-steps-count-requires g c =
       λ j l. omega (arith, (level_lawful (g.B.Book.model c.args.book.now) t c.loop-level.number c.loop-level.facts c.loop-level.draft c.loop-level.invariant.2 ps n.0 n.1 w).ascending.below j l, w.few_steps),
     )
 
-pub slice-bounds-pass-level-end : goal.slice-bounds-pass-level-end
-slice-bounds-pass-level-end g c =
+pub slice-bounds-pass_level-end : goal.slice-bounds-pass_level-end
+slice-bounds-pass_level-end g c =
     let t = task_of c.args.task.now in
     let ps = numbers_of c.in-Some.level in
     let n = next_of t.levels c.loop-level.number ps (rest c.next.new.self) (rest c.loop-level.levels) c.loop-level.invariant.0 c.in-Some.ensures in
     let r = level_room (g.B.Book.model c.args.book.now) t c.loop-level.number c.loop-level.facts c.loop-level.draft c.loop-level.invariant.2 ps n.0 n.1 (sheet_lawful c.args.task.now) in
     omega arith
 
-pub pass-level-requires : goal.pass-level-requires
-pass-level-requires g c =
+pub pass_level-requires : goal.pass_level-requires
+pass_level-requires g c =
     let t = task_of c.args.task.now in
     let w = sheet_lawful c.args.task.now in
     let ps = numbers_of c.in-Some.level in
     let n = next_of t.levels c.loop-level.number ps (rest c.next.new.self) (rest c.loop-level.levels) c.loop-level.invariant.0 c.in-Some.ensures in
-    let z : c.copy-steps-count.result - 0 ≡ c.copy-steps-count.result = omega arith in
-    let e : take (c.copy-steps-count.result - 0) c.copy-steps-count.new.steps ≡ ps = ap (λ i. take i c.copy-steps-count.new.steps) z ∙ c.copy-steps-count.ensures.steps in
+    let z : c.copy_steps-count.result - 0 ≡ c.copy_steps-count.result = omega arith in
+    let e : take (c.copy_steps-count.result - 0) c.copy_steps-count.new.steps ≡ ps = ap (λ i. take i c.copy_steps-count.new.steps) z ∙ c.copy_steps-count.ensures.steps in
     let r = level_room (g.B.Book.model c.args.book.now) t c.loop-level.number c.loop-level.facts c.loop-level.draft c.loop-level.invariant.2 ps n.0 n.1 w in
     let a = (level_lawful (g.B.Book.model c.args.book.now) t c.loop-level.number c.loop-level.facts c.loop-level.draft c.loop-level.invariant.2 ps n.0 n.1 w).ascending in (
       subst plans.Ascending (sym e) (ascending _ ps a),
@@ -52,8 +52,8 @@ returns-in-err-facts g c =
     let t = task_of c.args.task.now in
     let ps = numbers_of c.in-Some.level in
     let n = next_of t.levels c.loop-level.number ps (rest c.next.new.self) (rest c.loop-level.levels) c.loop-level.invariant.0 c.in-Some.ensures in
-    let z : c.copy-steps-count.result - 0 ≡ c.copy-steps-count.result = omega arith in
-    let e : take (c.copy-steps-count.result - 0) c.copy-steps-count.new.steps ≡ ps = ap (λ i. take i c.copy-steps-count.new.steps) z ∙ c.copy-steps-count.ensures.steps in
+    let z : c.copy_steps-count.result - 0 ≡ c.copy_steps-count.result = omega arith in
+    let e : take (c.copy_steps-count.result - 0) c.copy_steps-count.new.steps ≡ ps = ap (λ i. take i c.copy_steps-count.new.steps) z ∙ c.copy_steps-count.ensures.steps in
     let p = err_from_is_err_and c.from-residual.result c.from-residual.ensures.1 in
     rw (p.1, p.2) (level_refused (g.B.Book.model c.args.book.now) t c.loop-level.number c.loop-level.facts c.loop-level.draft c.loop-level.invariant.2 _ n.0 (n.1 ∙ sym e) c.requires.0 _ c.in-err-facts.ensures)
 
@@ -62,8 +62,8 @@ loop-level-preserved g c =
     let t = task_of c.args.task.now in
     let ps = numbers_of c.in-Some.level in
     let n = next_of t.levels c.loop-level.number ps (rest c.next.new.self) (rest c.loop-level.levels) c.loop-level.invariant.0 c.in-Some.ensures in
-    let z : c.copy-steps-count.result - 0 ≡ c.copy-steps-count.result = omega arith in
-    let e : take (c.copy-steps-count.result - 0) c.copy-steps-count.new.steps ≡ ps = ap (λ i. take i c.copy-steps-count.new.steps) z ∙ c.copy-steps-count.ensures.steps in (
+    let z : c.copy_steps-count.result - 0 ≡ c.copy_steps-count.result = omega arith in
+    let e : take (c.copy_steps-count.result - 0) c.copy_steps-count.new.steps ≡ ps = ap (λ i. take i c.copy_steps-count.new.steps) z ∙ c.copy_steps-count.ensures.steps in (
       n.2,
       omega arith,
       drafted_more (g.B.Book.model c.args.book.now) t c.loop-level.number c.loop-level.facts c.loop-level.draft c.loop-level.invariant.2 _ n.0 (n.1 ∙ sym e) _ _ c.in-ok-facts.ensures,
@@ -72,5 +72,5 @@ loop-level-preserved g c =
 pub returns : goal.returns
 returns g c =
     let t = task_of c.args.task.now in
-    let w = c.in-default.ensures in
+    let w = c.in_default.ensures in
     drafted_all (g.B.Book.model c.args.book.now) t c.loop-level.number c.loop-level.facts c.loop-level.draft c.loop-level.invariant.2 (omega (arith, length-drop c.loop-level.number t.levels, ap length (c.loop-level.invariant.0 ∙ w.0)))

@@ -35,10 +35,10 @@ loop-turn-preserved c =
       ),
     )
 
-pub returns-in-default : goal.returns-in-default
-returns-in-default c m t r =
+pub returns-in_default : goal.returns-in_default
+returns-in_default c m t r =
     let v = c.loop-turn.invariant.1 m t r in
-    turn_stuck m c.args.steps.now c.requires.0 c.args.rows.now r c.loop-turn.left v.0 v.1 (omega (arith, v.2)) c.in-default.ensures
+    turn_stuck m c.args.steps.now c.requires.0 c.args.rows.now r c.loop-turn.left v.0 v.1 (omega (arith, v.2)) c.in_default.ensures
 
 pub push-requires : goal.push-requires
 push-requires c = omega (arith, c.loop-turn.invariant.0)

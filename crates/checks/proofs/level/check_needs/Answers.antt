@@ -12,7 +12,7 @@ loop-i-preserved g c =
     let xs = c.args.steps.now in (
       table_more (λ k. Gathers m (get_or xs k 0)) c.loop-i.table c.loop-i.i c.gather-gathered.result (omega arith) c.loop-i.invariant.0 c.gather-gathered.ensures,
       below_more _ _ c.loop-i.invariant.1
-          (met_within (holds c.gather-gathered.result.needs.words) (m.needs (get_or xs c.loop-i.i 0)) (holds c.args.facts.now.words) c.gather-gathered.ensures.needs c.in-default.ensures),
+          (met_within (holds c.gather-gathered.result.needs.words) (m.needs (get_or xs c.loop-i.i 0)) (holds c.args.facts.now.words) c.gather-gathered.ensures.needs c.in_default.ensures),
     )
 
 pub returns-in-Some : goal.returns-in-Some

@@ -8,22 +8,22 @@ pub returns-then-not-arrange : goal.returns-then-not-arrange
 returns-then-not-arrange g c =
     let m = g.B.Book.model c.args.book.now in
     let xs = c.args.steps.now in
-    let h = c.in-ok-check-needs.ensures in (
+    let h = c.in-ok-check_needs.ensures in (
       refl,
       subst (λ (words : List ℕ). All (Met m (holds words)) xs) c.of-start.ensures h.0,
-      c.if-not-arrange.ensures m h.1 (c.fill-rows.ensures m h.1),
+      c.if-not-arrange.ensures m h.1 (c.fill_rows.ensures m h.1),
     )
 
 pub returns : goal.returns
 returns g c =
     let m = g.B.Book.model c.args.book.now in
     let xs = c.args.steps.now in
-    let h = c.in-ok-check-needs.ensures in
-    let w = c.if-not-arrange.ensures m h.1 (c.fill-rows.ensures m h.1) in
+    let h = c.in-ok-check_needs.ensures in
+    let w = c.if-not-arrange.ensures m h.1 (c.fill_rows.ensures m h.1) in
     record {
       met = subst (λ (words : List ℕ). All (Met m (holds words)) xs) c.of-start.ensures h.0;
       order = w.0;
       picked = w.1;
       grown = w.2;
-      facts = λ q. ap (λ words. holds words q) c.words.ensures ∙ c.facts-after.ensures m h.1 q ∙ ap (λ words. passed m (holds words) xs q) c.of-start.ensures;
+      facts = λ q. ap (λ words. holds words q) c.words.ensures ∙ c.facts_after.ensures m h.1 q ∙ ap (λ words. passed m (holds words) xs q) c.of-start.ensures;
     }

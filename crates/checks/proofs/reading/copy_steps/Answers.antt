@@ -2,7 +2,7 @@ use Rattle.std.proofs.Common.{◌≡◌, ◌+◌, [], ◌∷◌, ◌++◌, lengt
 use Rattle.std.proofs.lemmas.List.{take_all, take_more, take_more_set}
 use Rattle.task_sheets.specs.Parts.{numbers_of}
 use Rattle.checks.proofs.reading.copy_steps.Goals as goal
-use Rattle.checks.proofs.reading.copy_steps.Goals.{in-Some, in-default}
+use Rattle.checks.proofs.reading.copy_steps.Goals.{in-Some, in_default}
 
 pub loop-j-preserved : goal.loop-j-preserved
 loop-j-preserved c =
@@ -16,7 +16,7 @@ loop-j-preserved c =
                 ∙ ap (λ x. take c.loop-j.j (numbers_of c.args.level.now) ++ x ∷ []) h.1
                 ∙ sym (take_more (numbers_of c.args.level.now) c.loop-j.j 0 h.0),
           ))
-      | in-default w ↦ absurd (omega (arith, w.in-default.ensures))
+      | in_default w ↦ absurd (omega (arith, w.in_default.ensures))
     ]
 
 pub returns : goal.returns

@@ -9,5 +9,5 @@ loop-p-init c =
 
 pub loop-p-preserved : goal.loop-p-preserved
 loop-p-preserved c =
-    listed_step (holds c.args.facts.now.words) c.loop-p.p (codes "accepted: facts") (string_bytes c.loop-p.text) (string_bytes c.push-fact.new.text)
-    c.loop-p.invariant c.in-ok-push-fact.ensures
+    listed_step (holds c.args.facts.now.words) c.loop-p.p (codes "accepted: facts") (string_bytes c.loop-p.text) (string_bytes c.push_fact.new.text)
+    c.loop-p.invariant c.in-ok-push_fact.ensures

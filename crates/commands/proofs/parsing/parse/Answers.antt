@@ -7,7 +7,7 @@ returns-then-eq c =
     rack_asked (map string_bytes c.args.words.now) (map string_bytes c.in-Some.rest.now) c.in-Some.word.now c.rack.result
     c.in-Some.ensures (search rules) c.rack.ensures
 
-pub returns-in-None-only-number : goal.returns-in-None-only-number
-returns-in-None-only-number c =
+pub returns-in-None-only_number : goal.returns-in-None-only_number
+returns-in-None-only_number c =
     explain_unasked (map string_bytes c.args.words.now) (map string_bytes c.in-Some.rest.now) c.in-Some.word.now
-    c.in-Some.ensures (search rules) c.in-None-only-number.ensures
+    c.in-Some.ensures (search rules) c.in-None-only_number.ensures

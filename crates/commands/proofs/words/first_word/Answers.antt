@@ -7,4 +7,4 @@ returns-in-empty c = none_mapped string_bytes c.args.words.now (omega (arith, lt
 
 pub returns-in-len1-up : goal.returns-in-len1-up
 returns-in-len1-up c =
-    first_mapped string_bytes c.args.words.now c.word-item.result c.as-str.result.now (omega (arith, ltb-false)) c.word-item.is c.as-str.ensures.value
+    first_mapped string_bytes c.args.words.now c.word-item.result c.as_str.result.now (omega (arith, ltb-false)) c.word-item.is c.as_str.ensures.value

@@ -5,4 +5,4 @@ use Rattle.listings.proofs.lines.put_refused.Goals as goal
 
 pub returns : goal.returns
 unfolding refused_line
-returns c = puts_on (omega arith) c.put-entry-at.ensures.puts c.end-line.ensures
+returns c = puts_on (omega arith) c.put_entry-at.ensures.puts c.end_line.ensures

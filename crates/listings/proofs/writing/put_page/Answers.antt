@@ -7,4 +7,4 @@ use Rattle.listings.proofs.writing.put_page.Goals as goal
 pub returns : goal.returns
 returns c =
     let head = ap (λ (h : Head). head_line h.places h.levels h.strata h.seconds) c.head.ensures in
-    puts_on (omega arith) (puts_as head c.put-head-at.ensures.puts) c.put-rows.ensures
+    puts_on (omega arith) (puts_as head c.put_head-at.ensures.puts) c.put_rows.ensures

@@ -15,14 +15,14 @@ lines_more s v = rw add-one refl
 
 pub loop-row-preserved : goal.loop-row-preserved
 loop-row-preserved c =
-    let few = c.put-row-next.ensures.few in
+    let few = c.put_row-next.ensures.few in
     let p = c.in-Some.ensures in
     let s = shown_on c.args.page.now in
     let v = c.loop-row.v in
     let row = ap (λ (q : Row). place_line q.place q.step q.level q.stratum q.begin) p.1 in
-    (omega arith, omega arith, puts_as (lines_more s v) (puts_on (omega arith) c.loop-row.invariant.2 (puts_as row c.put-row-next.ensures.puts)))
+    (omega arith, omega arith, puts_as (lines_more s v) (puts_on (omega arith) c.loop-row.invariant.2 (puts_as row c.put_row-next.ensures.puts)))
 
 pub returns : goal.returns
 returns c =
-    let e : c.loop-row.v ≡ c.args.page.now.plan.count = omega (arith, c.in-default.ensures) in
+    let e : c.loop-row.v ≡ c.args.page.now.plan.count = omega (arith, c.in_default.ensures) in
     puts_as (ap (place_lines (shown_on c.args.page.now)) e) c.loop-row.invariant.2

@@ -11,6 +11,6 @@ returns c =
     let count = c.in-ok-end.end.count in
     let strata = c.in-ok-end.ensures.1 in
     record {
-      strata = record { begins = begins; count = count; strata = strata; written = c.write-layers.ensures };
-      recast = λ m book accepted places. recast_written m t (sheet_lawful c.args.task.now) card begins count places strata book accepted _ _ _ c.write-layers.ensures;
+      strata = record { begins = begins; count = count; strata = strata; written = c.write_layers.ensures };
+      recast = λ m book accepted places. recast_written m t (sheet_lawful c.args.task.now) card begins count places strata book accepted _ _ _ c.write_layers.ensures;
     }

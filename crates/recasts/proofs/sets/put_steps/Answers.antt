@@ -10,8 +10,8 @@ use Rattle.recasts.proofs.sets.put_steps.Goals as goal
 pub loop-a-init : goal.loop-a-init
 loop-a-init c = wrote_none c.args.out.now c.args.at
 
-pub put-step-place-requires : goal.put-step-place-requires
-put-step-place-requires c =
+pub put_step-place-requires : goal.put_step-place-requires
+put_step-place-requires c =
     let w = c.loop-a.invariant.place in
     record {
       few = omega arith;
@@ -21,7 +21,7 @@ put-step-place-requires c =
 pub loop-a-preserved : goal.loop-a-preserved
 loop-a-preserved c =
     let h : c.args.at ≤ length c.args.out.now = omega arith in
-    wrote_as (sym (twos_more (holds c.args.set.now.words) c.loop-a.a)) (wrote_on h c.loop-a.invariant c.put-step-place.ensures)
+    wrote_as (sym (twos_more (holds c.args.set.now.words) c.loop-a.a)) (wrote_on h c.loop-a.invariant c.put_step-place.ensures)
 
 pub returns : goal.returns
 returns c =

@@ -7,9 +7,9 @@ loop-i-init g c = record { plan = refl; span = refl; carried = λ _. carried_non
 
 pub loop-i-preserved : goal.loop-i-preserved
 loop-i-preserved g c =
-    let w = c.carry-request.ensures in
+    let w = c.carry_request.ensures in
     rw w.recorded.1
-    (so_far_more (g.B.Book.model c.args.book.now) _ _ _ c.args.card.now _ c.loop-i.card _ c.carry-request.new.card _
+    (so_far_more (g.B.Book.model c.args.book.now) _ _ _ c.args.card.now _ c.loop-i.card _ c.carry_request.new.card _
     c.args.requests.now c.args.replies.now c.loop-i.replies c.loop-i.i _ w.recorded.0
     c.loop-i-test.true (omega arith) c.loop-i.invariant w.plan w.span w.recorded.2)
 

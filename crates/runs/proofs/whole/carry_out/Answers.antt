@@ -27,7 +27,7 @@ returns-in-err-written g c =
     } in
     rw (p.1, p.2) (record {
       span = refl;
-      answered = short_sheet m span t c.args.card.now lent fresh c.args.sheet.now c.in-err-written.field-0.0 c.write-strata.new.out d c.in-ok-fresh.ensures.1 refl w;
+      answered = short_sheet m span t c.args.card.now lent fresh c.args.sheet.now c.in-err-written.field-0.0 c.write_strata.new.out d c.in-ok-fresh.ensures.1 refl w;
       refused = (refl, refl, refl, refl, w.written.2);
     })
 
@@ -44,13 +44,13 @@ returns g c =
     let started = c.start.new.board in
     let card = c.start.new.card in
     let drawn = subst (λ (x : Card). DrawAnswered m span t c.args.card.now (Ok x)) (sym c.start.ensures.card) d in
-    let e = c.carry-requests.ensures in
+    let e = c.carry_requests.ensures in
     record {
       span = e.span ∙ c.start.ensures.span;
       answered =
-          whole g.met.M.Measure.laws m lawful span (limit started) t c.args.card.now card c.carry-requests.new.card (set started) (set c.carry-requests.new.board)
-          c.args.requests.now c.args.replies.now c.carry-requests.new.replies c.args.weights.now c.args.begins.now c.time-places.new.begins
-          c.args.sheet.now c.write-strata.new.out c.in-ok-end.end c.in-ok-written.written
+          whole g.met.M.Measure.laws m lawful span (limit started) t c.args.card.now card c.carry_requests.new.card (set started) (set c.carry_requests.new.board)
+          c.args.requests.now c.args.replies.now c.carry_requests.new.replies c.args.weights.now c.args.begins.now c.time_places.new.begins
+          c.args.sheet.now c.write_strata.new.out c.in-ok-end.end c.in-ok-written.written
           drawn c.start.ensures.span c.start.ensures.holds e.plan e.carried e.rest c.in-ok-end.ensures
           (c.in-ok-written.ensures.recast m lawful d.1.accepted (drawn_card m span t c.args.card.now fresh d));
       refused = tt;

@@ -5,7 +5,7 @@ use Rattle.scripts.proofs.numeral.number.Goals as goal
 
 plain : (c : goal.After-ok) → get_or c.args.text.now 0 0 ≡ 43 → ⊥
 plain c e =
-    let t = (starts_char 43 c.args.text.now c.starts-with.result c.starts-with.ensures.cases (omega arith) (omega arith)).1 e in
+    let t = (starts_char 43 c.args.text.now c.starts_with.result c.starts_with.ensures.cases (omega arith) (omega arith)).1 e in
     let z : ◌≡◌ {A = ℕ} 0 1 = cc in
     omega arith
 

@@ -6,4 +6,4 @@ use Rattle.timetables.proofs.stratum.strata.Goals as goal
 pub returns : goal.returns
 returns c =
     let card = c.args.card.now in
-    stratified (size_of card) (precedes_of card) (upward card) card.plan.few c.args.begins.now c.one-step-each.new.begins c.one-step-each.result c.one-step-each.ensures
+    stratified (size_of card) (precedes_of card) (upward card) card.plan.few c.args.begins.now c.one_step_each.new.begins c.one_step_each.result c.one_step_each.ensures

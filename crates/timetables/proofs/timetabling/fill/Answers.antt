@@ -6,8 +6,8 @@ use Rattle.timetables.proofs.timetabling.fill.Goals as goal
 
 pub loop-v-preserved : goal.loop-v-preserved
 loop-v-preserved g c =
-    so_far_more g.met.M.Measure.laws (precedes_of c.args.card.now) c.args.weights.now c.args.begins.now c.loop-v.begins c.loop-v.v c.loop-v.end c.begin-of.result c.sum-at.result c.greater-end.result
-    (omega arith) c.sum-at.ensures c.greater-end.ensures c.begin-of.ensures c.loop-v.invariant
+    so_far_more g.met.M.Measure.laws (precedes_of c.args.card.now) c.args.weights.now c.args.begins.now c.loop-v.begins c.loop-v.v c.loop-v.end c.begin_of.result c.sum_at.result c.greater-end.result
+    (omega arith) c.sum_at.ensures c.greater-end.ensures c.begin_of.ensures c.loop-v.invariant
 
 pub returns : goal.returns
 returns g c =

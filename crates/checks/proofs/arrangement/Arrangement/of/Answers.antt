@@ -19,11 +19,11 @@ loop-v-init c = (
 pub loop-v-preserved : goal.loop-v-preserved
 loop-v-preserved c =
     let long : c.loop-v.v < length c.loop-v.before = omega arith in (
-      length-set c.loop-v.before c.loop-v.v c.row-of.result ∙ c.loop-v.invariant.0,
-      table_clear c.loop-v.v c.loop-v.before c.loop-v.invariant.1 c.loop-v.invariant.2 c.row-of.result long c.row-of.ensures.below,
-      table_low c.loop-v.v c.loop-v.before c.loop-v.invariant.1 c.loop-v.invariant.2 c.row-of.result long c.row-of.ensures.below,
-      λ m f o. table_told c.loop-v.v c.loop-v.before c.loop-v.invariant.1 c.loop-v.invariant.2 c.row-of.result long c.row-of.ensures.below
-          (Precedes m (places_of c.args.draft.now)) (c.row-of.ensures.exact m f o) (c.loop-v.invariant.3 m f o),
+      length-set c.loop-v.before c.loop-v.v c.row_of.result ∙ c.loop-v.invariant.0,
+      table_clear c.loop-v.v c.loop-v.before c.loop-v.invariant.1 c.loop-v.invariant.2 c.row_of.result long c.row_of.ensures.below,
+      table_low c.loop-v.v c.loop-v.before c.loop-v.invariant.1 c.loop-v.invariant.2 c.row_of.result long c.row_of.ensures.below,
+      λ m f o. table_told c.loop-v.v c.loop-v.before c.loop-v.invariant.1 c.loop-v.invariant.2 c.row_of.result long c.row_of.ensures.below
+          (Precedes m (places_of c.args.draft.now)) (c.row_of.ensures.exact m f o) (c.loop-v.invariant.3 m f o),
     )
 
 pub invariant-of-result : goal.invariant-of-result

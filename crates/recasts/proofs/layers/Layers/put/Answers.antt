@@ -12,8 +12,8 @@ use Rattle.recasts.proofs.layers.Layers.put.Goals as goal
 pub loop-k-init : goal.loop-k-init
 loop-k-init c = wrote_none c.args.out.now c.args.at
 
-pub put-set-place-requires : goal.put-set-place-requires
-put-set-place-requires c =
+pub put_set-place-requires : goal.put_set-place-requires
+put_set-place-requires c =
     let l = c.args.self.now in
     let k = c.loop-k.k in
     let n = ap length (row_said (holds c.steps.result.words) (steps_of l k) c.steps.ensures) in
@@ -30,4 +30,4 @@ loop-k-preserved c =
     let h : c.args.at ≤ length c.args.out.now = omega arith in
     let e = ap list_bytes (row_said (holds c.steps.result.words) (steps_of l k) c.steps.ensures) in
     let m = ap plan_bytes (rows_more (step_of l) (stratum_of l) (size_of l.card.now) k) ∙ plan_push (levels_below l k) row in
-    wrote_as (sym m) (wrote_on h c.loop-k.invariant (wrote_as e c.put-set-place.ensures))
+    wrote_as (sym m) (wrote_on h c.loop-k.invariant (wrote_as e c.put_set-place.ensures))

@@ -13,10 +13,10 @@ loop-k-preserved c =
     let l = c.args.self.now in
     let k = c.loop-k.k in
     let row = members (steps_of l k) 512 in
-    let n = c.size-of-total.ensures.is ∙ ap length (row_said (holds c.steps.result.words) (steps_of l k) c.steps.ensures) in
+    let n = c.size_of-total.ensures.is ∙ ap length (row_said (holds c.steps.result.words) (steps_of l k) c.steps.ensures) in
     let e = ap total (rows_more (step_of l) (stratum_of l) (size_of l.card.now) k) ∙ total_push (levels_below l k) row in
     let i = c.loop-k.invariant.0 in
-    (omega arith, omega (arith, c.size-of-total.ensures.few))
+    (omega arith, omega (arith, c.size_of-total.ensures.few))
 
 pub returns : goal.returns
 returns c =
