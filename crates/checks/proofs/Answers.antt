@@ -1,6 +1,6 @@
 -- A plan has one answer.
 use Rattle.std.proofs.Common.{◌≡◌, ℕ, zero, suc, ◌+◌, ◌<◌, ◌≤◌, Bool, true, false, not, ◌&&◌, ◌⊎◌, List, [], ◌∷◌, length, get_or, take, Ok, Err, Result, sym, refl, ap, ◌∙◌, subst, inl, inr, arith}
-use Rattle.std.specs.List.{ContainsAt as Has, AllByRecursion as All}
+use Rattle.std.specs.List.{ContainsAt as Has, AllByRecursion}
 use Rattle.std.proofs.ByRecursion.{all-has}
 use Rattle.std.proofs.lemmas.Bool.{cases_order, both_ways, and_parts, not-true}
 use Rattle.facts.specs.Sets.{First}
@@ -15,14 +15,14 @@ use Rattle.checks.specs.Checked.{Matches, facts_after_levels, PassTo, Lacks, Stu
 
 -- level k of a recognized plan passes
 pub passes : (m : Model) (E : Facts) (plan : List (List ℕ)) → Recognized m E plan → (k : ℕ) → k < length plan
-    → All (Met m (finally m E (take k plan))) (get_or plan k []) × Authorized m (get_or plan k [])
+    → AllByRecursion (Met m (finally m E (take k plan))) (get_or plan k []) × Authorized m (get_or plan k [])
 passes m E [] r k l = absurd (omega arith)
 passes m E (xs ∷ rest) r zero l = (r.0.met, r.0.authorized)
 passes m E (xs ∷ rest) r (suc k) l = passes m (passed m E xs) rest r.1 k (omega arith)
 
 -- level k passes where a later level is reached
 pub passes_before : (m : Model) (E : Facts) (plan : List (List ℕ)) (n : ℕ) → Recognized m E (take n plan) → (k : ℕ) → k < n → k < length plan
-    → All (Met m (finally m E (take k plan))) (get_or plan k []) × Authorized m (get_or plan k [])
+    → AllByRecursion (Met m (finally m E (take k plan))) (get_or plan k []) × Authorized m (get_or plan k [])
 passes_before m E [] n r k h l = absurd (omega arith)
 passes_before m E (xs ∷ rest) zero r k h l = absurd (omega arith)
 passes_before m E (xs ∷ rest) (suc n) r zero h l = (r.0.met, r.0.authorized)
@@ -37,7 +37,7 @@ same_first f p q a b =
     ]
 
 -- a step with all its needs lacks none
-met_lacks_none : (m : Model) (E : Facts) (xs : List ℕ) (a p : ℕ) → All (Met m E) xs → Has xs a → First (λ q. m.needs a q && not (E q)) p → ⊥
+met_lacks_none : (m : Model) (E : Facts) (xs : List ℕ) (a p : ℕ) → AllByRecursion (Met m E) xs → Has xs a → First (λ q. m.needs a q && not (E q)) p → ⊥
 met_lacks_none m E xs a p all has first =
     let t = and_parts (m.needs a p) (not (E p)) first.here in
     both_ways (E p) (not-true (E p) t.1) (all-has (Met m E) xs a all has p t.0)
@@ -47,7 +47,7 @@ module _ (m : Model) (t : Task) where
   record Fails (k : ℕ) : Type 0 where
     there : k < length t.levels
     reached : PassTo m t k
-    fails : All (Met m (facts_after_levels m t k)) (get_or t.levels k []) × Authorized m (get_or t.levels k []) → ⊥
+    fails : AllByRecursion (Met m (facts_after_levels m t k)) (get_or t.levels k []) × Authorized m (get_or t.levels k []) → ⊥
 
   lacks_fails : (k a p : ℕ) → Lacks m t k a p → Fails k
   lacks_fails k a p l = record {
@@ -74,7 +74,7 @@ module _ (m : Model) (t : Task) where
   apart k j a p l s =
       let e = same_level k j (lacks_fails k a p l) (stuck_fails j s) in
       met_lacks_none m (facts_after_levels m t k) (get_or t.levels k []) a p
-      (subst (λ i. All (Met m (facts_after_levels m t i)) (get_or t.levels i [])) (sym e) s.met) l.has l.lacking
+      (subst (λ i. AllByRecursion (Met m (facts_after_levels m t i)) (get_or t.levels i [])) (sym e) s.met) l.has l.lacking
 
   same_step : (k a b p q : ℕ) → Lacks m t k a p → Lacks m t k b q → a ≡ b
   same_step k a b p q l r =

@@ -1,7 +1,7 @@
 -- The levels of a plan, passed one after the other.
 use Rattle.std.proofs.Common.{◌≡◌, ℕ, zero, suc, ◌+◌, ◌-◌, ◌<◌, ◌≤◌, Bool, true, false, not, ◌&&◌, ◌⊎◌, List, [], ◌∷◌, ◌++◌, length, get_or, take, drop, Ok, Err, sym, refl, ap, ◌∙◌, subst, inl, inr, add-one, arith}
 use mathlib.Core.Path.{fun_ext}
-use Rattle.std.specs.List.{ContainsAt as Has, HoldsAt, AllByRecursion as All}
+use Rattle.std.specs.List.{ContainsAt as Has, HoldsAt, AllByRecursion}
 use Rattle.std.proofs.lemmas.List.{take_more, take_all, drop_more, length-drop, length-take-le}
 use Rattle.std.proofs.ByRecursion.{All-from_get_or, All-get_or}
 use Rattle.std.proofs.lemmas.List.Sorted.{length_permutation}
@@ -149,7 +149,7 @@ module _ (m : Model) (t : Task) (k : ℕ) (words : List ℕ) (d : Draft) (h : Dr
       record {
         there = l;
         reached = h.passed;
-        met = subst (λ E. All (Met m E) (get_or t.levels k [])) same_facts (subst (All (Met m (holds words))) (sym e) r.1);
+        met = subst (λ E. AllByRecursion (Met m E) (get_or t.levels k [])) same_facts (subst (AllByRecursion (Met m (holds words))) (sym e) r.1);
         stuck = λ a. r.2 (subst (Authorized m) e a);
       },
     ),

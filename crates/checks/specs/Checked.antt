@@ -1,6 +1,6 @@
 -- What the check of a plan answers.
 use Rattle.std.specs.Prelude.{◌≡◌, ℕ, suc, ◌<◌, Bool, true, false, not, ◌&&◌, List, [], ◌∷◌, length, take, Ok, Err, Result, slice_index_or}
-use Rattle.std.specs.List.{ContainsAt as Has, AllByRecursion as All}
+use Rattle.std.specs.List.{ContainsAt as Has, AllByRecursion}
 use Rattle.facts.specs.Sets.{holds, First}
 use Rattle.books.specs.Book.{Model, Facts}
 use Rattle.books.specs.Listed.{listed}
@@ -45,7 +45,7 @@ module _ (m : Model) (t : Task) where
   pub record Stuck (k : ℕ) : Type 0 where
     pub there : k < length t.levels
     pub reached : PassTo k
-    pub met : All (Met m (facts_after_levels k)) (slice_index_or t.levels k [])
+    pub met : AllByRecursion (Met m (facts_after_levels k)) (slice_index_or t.levels k [])
     pub stuck : Authorized m (slice_index_or t.levels k []) → ⊥
 
   -- every level passes, and p is the smallest goal fact that is missing at the end

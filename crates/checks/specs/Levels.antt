@@ -1,6 +1,6 @@
 -- Passing one level of a plan.
 use Rattle.std.specs.Prelude.{◌≡◌, ℕ, ◌+◌, ◌<◌, Bool, true, false, not, ◌&&◌, List, [], ◌∷◌, length, Ok, Err, Decides, Result, slice_index, slice_index_or}
-use Rattle.std.specs.List.{ContainsAt as Has, HoldsAt, AllByRecursion as All}
+use Rattle.std.specs.List.{ContainsAt as Has, HoldsAt, AllByRecursion}
 use Rattle.facts.specs.Sets.{holds, First}
 use Rattle.facts.specs.declared.NumberSet.{NumberSet}
 use Rattle.books.specs.Book.{Model, Facts}
@@ -51,12 +51,12 @@ module _ (m : Model) (E : Facts) (xs : List ℕ) where
   LevelRefused number (Sheet f) = ⊥
   LevelRefused number Mismatch = ⊥
   LevelRefused number (NeedMissing n a p) = (n ≡ number) × LacksNeed a p
-  LevelRefused number (NoOrder n) = (n ≡ number) × All (Met m E) xs × (Authorized m xs → ⊥)
+  LevelRefused number (NoOrder n) = (n ≡ number) × AllByRecursion (Met m E) xs × (Authorized m xs → ⊥)
   LevelRefused number (GoalMissing p) = ⊥
 
   -- the level passes and leaves these facts, and the draft has grown by its picked order
   pub record LevelPassed (number : ℕ) (words : List ℕ) (old new : Draft) : Type 0 where
-    pub met : All (Met m E) xs
+    pub met : AllByRecursion (Met m E) xs
     pub order : List ℕ
     pub picked : Picked m xs order
     pub grown : Grown m order number old new

@@ -1,5 +1,5 @@
 ghost use Rattle.std.specs.Prelude.{◌≡◌, ℕ, ◌+◌, ◌<◌, ◌≤◌, false, not, ◌&&◌, ◌||◌, List, length, Decides, MatchBool, MatchOption, MatchResult, nat_lt, slice_index};
-ghost use Rattle.std.specs.List.{AllByRecursion as All};
+ghost use Rattle.std.specs.List.{AllByRecursion};
 ghost use Rattle.facts.specs.Sets.{holds, First};
 ghost use Rattle.books.specs.Book.{Model};
 ghost use Rattle.plans.specs.Steps.{Met, passed};
@@ -30,7 +30,7 @@ fn check_needs<B: Book>(
     table: &mut [StepFacts; 256],
 ) -> Result<(), PlanFault>
     requires { (Ascending steps.now) × (length steps.now ≤ 256) }
-    ensures { MatchResult result (λ _. All (Met (B.Book.model book.now) (holds facts.now.words)) steps.now × Tabled (B.Book.model book.now) steps.now table.new) (LevelRefused (B.Book.model book.now) (holds facts.now.words) steps.now number) }
+    ensures { MatchResult result (λ _. AllByRecursion (Met (B.Book.model book.now) (holds facts.now.words)) steps.now × Tabled (B.Book.model book.now) steps.now table.new) (LevelRefused (B.Book.model book.now) (holds facts.now.words) steps.now number) }
 {
     for i in 0..steps.len() {
         let step = steps[i] as usize;

@@ -1,6 +1,6 @@
 -- The strata of a card that has the places of an accepted plan are the recast of its task.
 use Rattle.std.proofs.Common.{◌≡◌, ℕ, zero, suc, ◌<◌, true, false, ◌&&◌, eqb, ltb, List, [], length, get_or, Ok, Result, sym, refl, ap, ◌∙◌, subst, inl, inr, arith}
-use Rattle.std.specs.List.{ContainsAt as Has, AllByRecursion as All}
+use Rattle.std.specs.List.{ContainsAt as Has, AllByRecursion}
 use Rattle.std.proofs.ByRecursion.{All-get_or, All-from_get_or, has_get_or}
 use Rattle.std.proofs.lemmas.Bool.{both_ways, and_from, and_parts, or_cases, or_left, or_right, eq-eqb, eqb-true, lt-ltb, cases_lt}
 use Rattle.books.specs.Book.{Facts, Model, Lawful}
@@ -91,7 +91,7 @@ module _ (m : Model) (t : Task) (law : LawfulTask t) (card : Card) (begins : Lis
   row_at : (i : ℕ) → i < length levels → row i ≡ get_or levels i []
   row_at i k = sym (get_d_rows (step_in card) stratum o.size count i (omega (arith, length_rows (step_in card) stratum o.size count)))
 
-  each_row : (P : List ℕ → Type 0) → ((i : ℕ) → i < count → P (row i)) → All P levels
+  each_row : (P : List ℕ → Type 0) → ((i : ℕ) → i < count → P (row i)) → AllByRecursion P levels
   each_row P f =
       All-from_get_or P levels [] (λ i k. subst P (row_at i k) (f i (omega (arith, length_rows (step_in card) stratum o.size count))))
 

@@ -1,6 +1,6 @@
 -- What the recast of a task is, and what its writing answers and leaves.
 use Rattle.std.specs.Prelude.{◌≡◌, ℕ, ◌<◌, ◌≤◌, List, ◌++◌, length, drop, Ok, Err, Result}
-use Rattle.std.specs.List.{AllByRecursion as All}
+use Rattle.std.specs.List.{AllByRecursion}
 use Rattle.books.specs.Book.{Model}
 use Rattle.books.specs.Listed.{listed}
 use Rattle.sheets.specs.Verdicts.{fine}
@@ -39,7 +39,7 @@ pub record Good (m : Model) (t t' : Task) : Type 0 where
   pub accepted : Checked m t' (Ok tt)
   pub same : (p : ℕ) → finally m (listed t'.start) t'.levels p ≡ finally m (listed t.start) t.levels p
   -- no two different steps of one level disturb each other
-  pub calm : All (Calm m) t'.levels
+  pub calm : AllByRecursion (Calm m) t'.levels
   -- recast again it is the same, and there is no other recast of it
   pub again : RecastOf m t' t'
   pub only : (t'' : Task) → RecastOf m t' t'' → t'' ≡ t'

@@ -1,6 +1,6 @@
 -- A buffer that is too short, where a card can be drawn up.
 use Rattle.std.proofs.Common.{◌≡◌, ℕ, ◌<◌, ◌⊎◌, List, [], ◌∷◌, ◌++◌, length, Ok, Err, refl, inl, inr, arith}
-use Rattle.std.specs.List.{AllByRecursion as All}
+use Rattle.std.specs.List.{AllByRecursion}
 use Rattle.sheets.specs.declared.writing.TooShort.{TooShort}
 use Rattle.books.specs.Book.{Model, Lawful}
 use Rattle.books.specs.Listed.{listed}
@@ -28,7 +28,7 @@ first_behind [] ys n e w = w
 first_behind (x ∷ xs) ys n e w = inr (e.0, first_behind xs ys n e.1 w)
 
 -- an accepted task has a recast
-some_recast : (m : Model) → Lawful m → (t : Task) → All (Authorized m) t.levels → (t' : Task) × RecastOf m t t'
+some_recast : (m : Model) → Lawful m → (t : Task) → AllByRecursion (Authorized m) t.levels → (t' : Task) × RecastOf m t t'
 some_recast m law t a =
     let w = (stratifying m law t.levels).0 a in
     (record { facts = t.facts; steps = t.steps; start = t.start; goal = t.goal; levels = w.0 }, record { facts = refl; steps = refl; start = refl; goal = refl; strata = w.1 })

@@ -1,6 +1,6 @@
 -- The books and the tasks of the examples are lawful.
 use Rattle.std.proofs.Common.{◌≡◌, ℕ, suc, ◌<◌, Bool, true, not, ◌&&◌, ◌||◌, eqb, ltb, leb, ◌⊎◌, List, [], ◌∷◌, length, get_or, refl, inl, inr, arith}
-use Rattle.std.specs.List.{AllByRecursion as All}
+use Rattle.std.specs.List.{AllByRecursion}
 use Rattle.std.proofs.lemmas.Bool.{and_parts, leb-true, ltb-true}
 use Rattle.std.proofs.lemmas.Bool.Decides.{Decides-eqb, Decides-ltb, Decides-not, Decides-or}
 use Rattle.sheets.specs.Lists.{Ascending}
@@ -59,7 +59,7 @@ abbrev steps_lawful_shown : ℕ → List Step → Bool
 steps_lawful_shown f [] = true
 steps_lawful_shown f (s ∷ rest) = step_lawful_shown f s && steps_lawful_shown f rest
 
-steps_shown : (f : ℕ) (steps : List Step) → steps_lawful_shown f steps ≡ true → All (LawfulStep f) steps
+steps_shown : (f : ℕ) (steps : List Step) → steps_lawful_shown f steps ≡ true → AllByRecursion (LawfulStep f) steps
 steps_shown f [] e = tt
 steps_shown f (s ∷ rest) e = let t = and_parts _ _ e in (step_shown f s t.0, steps_shown f rest t.1)
 
@@ -73,7 +73,7 @@ abbrev levels_lawful : ℕ → List (List ℕ) → Bool
 levels_lawful steps [] = true
 levels_lawful steps (ps ∷ rest) = (ltb 0 (length ps) && ascending steps ps) && levels_lawful steps rest
 
-levels_shown : (steps : ℕ) (levels : List (List ℕ)) → levels_lawful steps levels ≡ true → All (LawfulLevel steps) levels
+levels_shown : (steps : ℕ) (levels : List (List ℕ)) → levels_lawful steps levels ≡ true → AllByRecursion (LawfulLevel steps) levels
 levels_shown steps [] e = tt
 levels_shown steps (ps ∷ rest) e =
     let t = and_parts _ _ e in

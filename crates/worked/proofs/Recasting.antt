@@ -1,6 +1,6 @@
 -- The recast of a plan that is laid out, shown by a test.
 use Rattle.std.proofs.Common.{◌≡◌, ℕ, ◌<◌, Bool, true, not, ◌&&◌, ◌||◌, eqb, ltb, ◌⊎◌, List, [], ◌∷◌, length, get_or, refl, inl, inr}
-use Rattle.std.specs.List.{AllByRecursion as All}
+use Rattle.std.specs.List.{AllByRecursion}
 use Rattle.std.proofs.ByRecursion.{all-has}
 use Rattle.std.proofs.lemmas.Bool.{and_parts, eqb-true, ltb-true}
 use Rattle.std.proofs.lemmas.Bool.Decides.{Decides-eqb, Decides-ltb, Decides-not, Decides-or}
@@ -29,11 +29,11 @@ rises_shown : (xs : List ℕ) → rises xs ≡ true → Ascending xs
 rises_shown [] e = tt
 rises_shown (x ∷ xs) e = let t = and_parts _ _ e in ((decides_every (λ y. ltb x y) (λ y. x < y) (λ y. Decides-ltb x y) xs).0 t.0, rises_shown xs t.1)
 
-ascending_shown : (levels : List (List ℕ)) → rising levels ≡ true → All Ascending levels
+ascending_shown : (levels : List (List ℕ)) → rising levels ≡ true → AllByRecursion Ascending levels
 ascending_shown [] e = tt
 ascending_shown (xs ∷ rest) e = let t = and_parts _ _ e in (rises_shown xs (and_parts _ _ t.0).0, ascending_shown rest t.1)
 
-some_shown : (levels : List (List ℕ)) → rising levels ≡ true → All (λ xs. 0 < length xs) levels
+some_shown : (levels : List (List ℕ)) → rising levels ≡ true → AllByRecursion (λ xs. 0 < length xs) levels
 some_shown [] e = tt
 some_shown (xs ∷ rest) e = let t = and_parts _ _ e in (ltb-true _ _ (and_parts _ _ t.0).1, some_shown rest t.1)
 

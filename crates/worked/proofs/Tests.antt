@@ -1,6 +1,6 @@
 -- Tests that decide what is asked of plans of a lawful book, so that an example is shown by computing them.
 use Rattle.std.proofs.Common.{◌≡◌, ℕ, zero, suc, ◌<◌, ◌≤◌, Bool, true, false, cond, not, ◌&&◌, ◌||◌, eqb, ltb, ◌⊎◌, List, [], ◌∷◌, Decides, sym, refl, ◌∙◌, subst, inl, inr, arith}
-use Rattle.std.specs.List.{ContainsAt as Has, AllByRecursion as All}
+use Rattle.std.specs.List.{ContainsAt as Has, AllByRecursion}
 use Rattle.std.specs.List.Sorted.{IsPermutation}
 use Rattle.std.proofs.ByRecursion.{all-has, all_has_itself, All-weaker, has_shuffled, Decides-by_and}
 use Rattle.std.proofs.lemmas.List.Sorted.{IsPermutation-refl, IsPermutation-cons, IsPermutation-trans, IsPermutation-swap, length_permutation}
@@ -44,7 +44,7 @@ decides_true b = (λ e. e, λ e. e)
 pub decides_below : (f : ℕ → Bool) (P : ℕ → Type 0) → ((k : ℕ) → Decides (f k) (P k)) → (n : ℕ) → Decides (below f n) ((k : ℕ) → k < n → P k)
 decides_below f P each n = Decides-below_and f P (below f) each refl (λ _. refl) n
 
-pub decides_every : (f : ℕ → Bool) (P : ℕ → Type 0) → ((k : ℕ) → Decides (f k) (P k)) → (xs : List ℕ) → Decides (every f xs) (All P xs)
+pub decides_every : (f : ℕ → Bool) (P : ℕ → Type 0) → ((k : ℕ) → Decides (f k) (P k)) → (xs : List ℕ) → Decides (every f xs) (AllByRecursion P xs)
 decides_every f P each xs = Decides-by_and f P (every f) each refl (λ _ _. refl) xs
 
 pub decides_exists : (f : ℕ → Bool) (n : ℕ) → Decides (exists f n) ((k : ℕ) × (k < n) × (f k ≡ true))
@@ -202,7 +202,7 @@ module _ (m : Model) (law : Lawful m) where
       let none = (decides_every (λ b. not (free m (x ∷ xs) b)) (λ b. Free m (x ∷ xs) b → ⊥) (λ b. Decides-not _ (free_decides (x ∷ xs) b)) (x ∷ xs)).0 e in
       refusing m (x ∷ xs) [] (x ∷ xs) (IsPermutation-refl (x ∷ xs)) x (has_first x xs) (λ b h. all-has (λ b. Free m (x ∷ xs) b → ⊥) (x ∷ xs) b none h)
 
-  pub met_shown : (E : Facts) (xs : List ℕ) → every (met m E) xs ≡ true → All (Met m E) xs
+  pub met_shown : (E : Facts) (xs : List ℕ) → every (met m E) xs ≡ true → AllByRecursion (Met m E) xs
   met_shown E xs e = (decides_every (met m E) (Met m E) (met_decides E) xs).0 e
 
   pub recognized_shown : (E : Facts) (plan orders : List (List ℕ)) → recognizes m E plan orders ≡ true → Recognized m E plan

@@ -1,6 +1,6 @@
 -- The worked examples.
 use Rattle.std.specs.Prelude.{◌≡◌, ℕ, ◌≤◌, List, [], ◌∷◌, Ok, Err}
-use Rattle.std.specs.List.{AllByRecursion as All}
+use Rattle.std.specs.List.{AllByRecursion}
 use Rattle.books.specs.Book.{Lawful}
 use Rattle.plans.specs.Plans.{AuthorizedOrder, Authorized}
 use Rattle.task_sheets.specs.Content.{Task, LawfulTask}
@@ -116,7 +116,7 @@ pub record WorkedExamples : Type 0 where
   pub rack_is_lawful : Lawful rack
   pub one_order_is_lawful : Lawful one_order_book
   pub ring_is_lawful : Lawful ring
-  pub tasks_are_lawful : All LawfulTask (two_level_bytes ∷ side_by_side ∷ read_unsettled ∷ nothing_to_do ∷ nothing_done ∷ one_order_task ∷ ring_task ∷ [])
+  pub tasks_are_lawful : AllByRecursion LawfulTask (two_level_bytes ∷ side_by_side ∷ read_unsettled ∷ nothing_to_do ∷ nothing_done ∷ one_order_task ∷ ring_task ∷ [])
   -- one calibration by hand: what stands after each step
   pub by_hand : Leaves rack (2 ∷ 3 ∷ []) (0 ∷ []) (0 ∷ 3 ∷ [])
       × Leaves rack (2 ∷ 3 ∷ []) (0 ∷ 6 ∷ []) (0 ∷ 3 ∷ 4 ∷ [])

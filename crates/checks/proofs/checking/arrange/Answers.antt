@@ -3,7 +3,7 @@ use Rattle.checks.proofs.checking.arrange.Goals as goal
 
 pub returns : goal.returns
 returns g c =
-    let h = c.in-ok-words.ensures in
+    let h = c.in_ok-words.ensures in
     record {
       answer = h.answer;
       facts = h.facts;

@@ -11,25 +11,25 @@ use Rattle.checks.proofs.checking.judge.Goals as goal
 matched : (m : Model) (t : Task) (a b x y : ℕ) → a ≡ t.facts → b ≡ m.facts → a ≡ b → x ≡ t.steps → y ≡ m.steps → x ≡ y → Matches m t
 matched m t a b x y e d q e' d' q' = record { facts = sym d ∙ sym q ∙ e; steps = sym d' ∙ sym q' ∙ e' }
 
-pub returns-in-err-reach_goal : goal.returns-in-err-reach_goal
-returns-in-err-reach_goal g c =
+pub returns-in_err-reach_goal : goal.returns-in_err-reach_goal
+returns-in_err-reach_goal g c =
     let m = g.B.Book.model c.args.book.now in
     let t = task_of c.args.task.now in
     let d = c.pass_levels.new.draft in
-    let h = subst (λ ws. Drafted m t (length t.levels) ws d) (sym c.of.ensures) c.in-ok-end.ensures in
+    let h = subst (λ ws. Drafted m t (length t.levels) ws d) (sym c.of.ensures) c.in_ok-end.ensures in
     let ok = matched m t _ _ _ _ c.facts.ensures.says c.facts-2.ensures c.if-facts.false c.steps.ensures.says c.steps-else-facts.ensures c.if-steps.false in
-    let p = err_from_is_err_and c.from-residual-in-err-reach_goal.result c.from-residual-in-err-reach_goal.ensures.1 in
-    rw (p.1, p.2) (record { answer = goal_missed m t c.of.result.words d h ok _ c.in-err-reach_goal.ensures; facts = tt; drafted = tt })
+    let p = err_from_is_err_and c.from-residual-in_err-reach_goal.result c.from-residual-in_err-reach_goal.ensures.1 in
+    rw (p.1, p.2) (record { answer = goal_missed m t c.of.result.words d h ok _ c.in_err-reach_goal.ensures; facts = tt; drafted = tt })
 
 pub returns : goal.returns
 returns g c =
     let m = g.B.Book.model c.args.book.now in
     let t = task_of c.args.task.now in
     let d = c.pass_levels.new.draft in
-    let h = subst (λ ws. Drafted m t (length t.levels) ws d) (sym c.of.ensures) c.in-ok-end.ensures in
+    let h = subst (λ ws. Drafted m t (length t.levels) ws d) (sym c.of.ensures) c.in_ok-end.ensures in
     let ok = matched m t _ _ _ _ c.facts.ensures.says c.facts-2.ensures c.if-facts.false c.steps.ensures.says c.steps-else-facts.ensures c.if-steps.false in
     record {
-      answer = (ok, goal_reached m t c.of.result.words d h c.in-ok-reach_goal.ensures);
-      facts = all_ends m t c.in-ok-end.end d c.in-ok-end.ensures;
-      drafted = all_drafted m t c.in-ok-end.end d c.in-ok-end.ensures;
+      answer = (ok, goal_reached m t c.of.result.words d h c.in_ok-reach_goal.ensures);
+      facts = all_ends m t c.in_ok-end.end d c.in_ok-end.ensures;
+      drafted = all_drafted m t c.in_ok-end.end d c.in_ok-end.ensures;
     }

@@ -47,15 +47,15 @@ pass_level-requires g c =
       omega (arith, ap length e),
     )
 
-pub returns-in-err-facts : goal.returns-in-err-facts
-returns-in-err-facts g c =
+pub returns-in_err-facts : goal.returns-in_err-facts
+returns-in_err-facts g c =
     let t = task_of c.args.task.now in
     let ps = numbers_of c.in-Some.level in
     let n = next_of t.levels c.loop-level.number ps (rest c.next.new.self) (rest c.loop-level.levels) c.loop-level.invariant.0 c.in-Some.ensures in
     let z : c.copy_steps-count.result - 0 ≡ c.copy_steps-count.result = omega arith in
     let e : take (c.copy_steps-count.result - 0) c.copy_steps-count.new.steps ≡ ps = ap (λ i. take i c.copy_steps-count.new.steps) z ∙ c.copy_steps-count.ensures.steps in
     let p = err_from_is_err_and c.from-residual.result c.from-residual.ensures.1 in
-    rw (p.1, p.2) (level_refused (g.B.Book.model c.args.book.now) t c.loop-level.number c.loop-level.facts c.loop-level.draft c.loop-level.invariant.2 _ n.0 (n.1 ∙ sym e) c.requires.0 _ c.in-err-facts.ensures)
+    rw (p.1, p.2) (level_refused (g.B.Book.model c.args.book.now) t c.loop-level.number c.loop-level.facts c.loop-level.draft c.loop-level.invariant.2 _ n.0 (n.1 ∙ sym e) c.requires.0 _ c.in_err-facts.ensures)
 
 pub loop-level-preserved : goal.loop-level-preserved
 loop-level-preserved g c =
@@ -66,7 +66,7 @@ loop-level-preserved g c =
     let e : take (c.copy_steps-count.result - 0) c.copy_steps-count.new.steps ≡ ps = ap (λ i. take i c.copy_steps-count.new.steps) z ∙ c.copy_steps-count.ensures.steps in (
       n.2,
       omega arith,
-      drafted_more (g.B.Book.model c.args.book.now) t c.loop-level.number c.loop-level.facts c.loop-level.draft c.loop-level.invariant.2 _ n.0 (n.1 ∙ sym e) _ _ c.in-ok-facts.ensures,
+      drafted_more (g.B.Book.model c.args.book.now) t c.loop-level.number c.loop-level.facts c.loop-level.draft c.loop-level.invariant.2 _ n.0 (n.1 ∙ sym e) _ _ c.in_ok-facts.ensures,
     )
 
 pub returns : goal.returns

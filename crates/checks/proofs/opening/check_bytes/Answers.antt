@@ -17,21 +17,21 @@ at-fault v f r P e d = rw e d
 at-fine : (v : Result (Unit {0}) SheetFault) (u : Unit {0}) (r : Result (Unit {0}) PlanFault) (P : Type 0) → v ≡ Ok u → P → Unless v r P
 at-fine v u r P e p = rw e p
 
-pub returns-in-err-open : goal.returns-in-err-open
-returns-in-err-open c =
+pub returns-in_err-open : goal.returns-in_err-open
+returns-in_err-open c =
     let p = err_from_is_err_and c.from-residual.result c.from-residual.ensures.1 in
     record {
-      answer = at-fault _ c.in-err-open.field-0.0 c.from-residual.result _ (sym c.in-err-open.ensures.verdict) (p.1 ∙ ap Err p.2);
+      answer = at-fault _ c.in_err-open.field-0.0 c.from-residual.result _ (sym c.in_err-open.ensures.verdict) (p.1 ∙ ap Err p.2);
       facts = rw p.1 refl;
     }
 
 pub returns : goal.returns
 returns c =
-    let b : c.open.new.self.bytes.now ≡ c.args.book.now = ap (λ (s : Bor (List ℕ)). s.now) c.in-ok-open.ensures.after in
-    let t = c.in-ok-open-2.ensures.after.bytes in
+    let b : c.open.new.self.bytes.now ≡ c.args.book.now = ap (λ (s : Bor (List ℕ)). s.now) c.in_ok-open.ensures.after in
+    let t = c.in_ok-open-2.ensures.after.bytes in
     record {
-      answer = at-fine _ _ c.check.result _ (sym c.in-ok-open.ensures.verdict)
-          (at-fine _ _ c.check.result _ (sym c.in-ok-open-2.ensures.verdict)
+      answer = at-fine _ _ c.check.result _ (sym c.in_ok-open.ensures.verdict)
+          (at-fine _ _ c.check.result _ (sym c.in_ok-open-2.ensures.verdict)
           (subst (λ bs. Checked (book.model_of (book.content bs)) (task.content c.args.task.now) c.check.result) b
           (subst (λ ts. Checked (book.model_of (book.content c.open.new.self.bytes.now)) (task.content ts) c.check.result) t c.check.ensures.answer)));
       facts =

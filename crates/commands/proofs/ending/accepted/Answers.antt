@@ -5,9 +5,9 @@ use Rattle.commands.proofs.ending.accepted.Goals as goal
 
 pub loop-p-init : goal.loop-p-init
 loop-p-init c =
-    listed_none (holds c.args.facts.now.words) (codes "accepted: facts") (string_bytes c.in-ok-text.text) c.in-ok-text.ensures.ok
+    listed_none (holds c.args.facts.now.words) (codes "accepted: facts") (string_bytes c.in_ok-text.text) c.in_ok-text.ensures.ok
 
 pub loop-p-preserved : goal.loop-p-preserved
 loop-p-preserved c =
     listed_step (holds c.args.facts.now.words) c.loop-p.p (codes "accepted: facts") (string_bytes c.loop-p.text) (string_bytes c.push_fact.new.text)
-    c.loop-p.invariant c.in-ok-push_fact.ensures
+    c.loop-p.invariant c.in_ok-push_fact.ensures

@@ -4,25 +4,25 @@ use Rattle.checks.specs.Checked.{bare}
 use Rattle.checks.proofs.Sheets.{at_fault, both_open}
 use Rattle.listings.proofs.making.read_page.Goals as goal
 
-pub returns-in-err-open : goal.returns-in-err-open
-returns-in-err-open c =
+pub returns-in_err-open : goal.returns-in_err-open
+returns-in_err-open c =
     let p = err_from_is_err_and c.from-residual.result c.from-residual.ensures.1 in
     record {
-      checked = at_fault _ c.in-err-open.field-0.0 (bare c.from-residual.result) _ (sym c.in-err-open.ensures.verdict) (ap bare p.1 ∙ ap Err p.2);
+      checked = at_fault _ c.in_err-open.field-0.0 (bare c.from-residual.result) _ (sym c.in_err-open.ensures.verdict) (ap bare p.1 ∙ ap Err p.2);
       shown = rw p.1 tt;
     }
 
-pub returns-in-err-arrange : goal.returns-in-err-arrange
-returns-in-err-arrange c =
-    let b : c.open.new.self.bytes.now ≡ c.args.book.now = ap (λ (s : Bor (List ℕ)). s.now) c.in-ok-open.ensures.after in
-    let t = c.in-ok-open-2.ensures.after.bytes in
-    let p = err_from_is_err_and c.from-residual-in-err-arrange.result c.from-residual-in-err-arrange.ensures.1 in
-    let f = c.in-err-arrange.field-0.0 in
-    let r = bare c.from-residual-in-err-arrange.result in
+pub returns-in_err-arrange : goal.returns-in_err-arrange
+returns-in_err-arrange c =
+    let b : c.open.new.self.bytes.now ≡ c.args.book.now = ap (λ (s : Bor (List ℕ)). s.now) c.in_ok-open.ensures.after in
+    let t = c.in_ok-open-2.ensures.after.bytes in
+    let p = err_from_is_err_and c.from-residual-in_err-arrange.result c.from-residual-in_err-arrange.ensures.1 in
+    let f = c.in_err-arrange.field-0.0 in
+    let r = bare c.from-residual-in_err-arrange.result in
     let e : Err f ≡ r = sym (ap bare p.1 ∙ ap Err p.2) in
     record {
       checked =
           both_open c.args.book.now c.args.task.now c.open.new.self.bytes.now c.open-2.new.self.bytes.now r (Err f) _ _
-          (sym c.in-ok-open.ensures.verdict) (sym c.in-ok-open-2.ensures.verdict) b t e c.in-err-arrange.ensures.answer;
+          (sym c.in_ok-open.ensures.verdict) (sym c.in_ok-open-2.ensures.verdict) b t e c.in_err-arrange.ensures.answer;
       shown = rw p.1 tt;
     }

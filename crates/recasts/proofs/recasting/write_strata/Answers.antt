@@ -8,8 +8,8 @@ returns c =
     let t = task_of c.args.task.now in
     let card = c.args.card.now in
     let begins = c.strata.new.begins in
-    let count = c.in-ok-end.end.count in
-    let strata = c.in-ok-end.ensures.1 in
+    let count = c.in_ok-end.end.count in
+    let strata = c.in_ok-end.ensures.1 in
     record {
       strata = record { begins = begins; count = count; strata = strata; written = c.write_layers.ensures };
       recast = λ m book accepted places. recast_written m t (sheet_lawful c.args.task.now) card begins count places strata book accepted _ _ _ c.write_layers.ensures;

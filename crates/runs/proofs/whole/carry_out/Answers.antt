@@ -8,16 +8,16 @@ use Rattle.runs.proofs.Shorts.{drawn_card, short_sheet}
 use Rattle.runs.proofs.Wholes.{whole}
 use Rattle.runs.proofs.whole.carry_out.Goals as goal
 
-pub returns-in-err-written : goal.returns-in-err-written
-returns-in-err-written g c =
+pub returns-in_err-written : goal.returns-in_err-written
+returns-in_err-written g c =
     let m = g.B.Book.model c.args.book.now in
     let t = task_of c.args.task.now in
     let span = g.D.Board.limit c.args.board.now in
-    let fresh = c.in-ok-fresh.fresh in
-    let d = c.in-ok-fresh.ensures.0 in
-    let out = c.from-residual-in-err-written in
+    let fresh = c.in_ok-fresh.fresh in
+    let d = c.in_ok-fresh.ensures.0 in
+    let out = c.from-residual-in_err-written in
     let p = err_from_is_err_and out.result out.ensures.1 in
-    let w = c.in-err-written.ensures.recast m (g.B.Book.lawful c.args.book.now) d.1.accepted (drawn_card m span t c.args.card.now fresh d) in
+    let w = c.in_err-written.ensures.recast m (g.B.Book.lawful c.args.book.now) d.1.accepted (drawn_card m span t c.args.card.now fresh d) in
     let lent : Lengths = record {
       requests = length c.args.requests.now;
       replies = length c.args.replies.now;
@@ -27,7 +27,7 @@ returns-in-err-written g c =
     } in
     rw (p.1, p.2) (record {
       span = refl;
-      answered = short_sheet m span t c.args.card.now lent fresh c.args.sheet.now c.in-err-written.field-0.0 c.write_strata.new.out d c.in-ok-fresh.ensures.1 refl w;
+      answered = short_sheet m span t c.args.card.now lent fresh c.args.sheet.now c.in_err-written.field-0.0 c.write_strata.new.out d c.in_ok-fresh.ensures.1 refl w;
       refused = (refl, refl, refl, refl, w.written.2);
     })
 
@@ -39,8 +39,8 @@ returns g c =
     let limit = g.D.Board.limit in
     let set = g.D.Board.set in
     let span = limit c.args.board.now in
-    let fresh = c.in-ok-fresh.fresh in
-    let d = c.in-ok-fresh.ensures.0 in
+    let fresh = c.in_ok-fresh.fresh in
+    let d = c.in_ok-fresh.ensures.0 in
     let started = c.start.new.board in
     let card = c.start.new.card in
     let drawn = subst (λ (x : Card). DrawAnswered m span t c.args.card.now (Ok x)) (sym c.start.ensures.card) d in
@@ -50,8 +50,8 @@ returns g c =
       answered =
           whole g.met.M.Measure.laws m lawful span (limit started) t c.args.card.now card c.carry_requests.new.card (set started) (set c.carry_requests.new.board)
           c.args.requests.now c.args.replies.now c.carry_requests.new.replies c.args.weights.now c.args.begins.now c.time_places.new.begins
-          c.args.sheet.now c.write_strata.new.out c.in-ok-end.end c.in-ok-written.written
-          drawn c.start.ensures.span c.start.ensures.holds e.plan e.carried e.rest c.in-ok-end.ensures
-          (c.in-ok-written.ensures.recast m lawful d.1.accepted (drawn_card m span t c.args.card.now fresh d));
+          c.args.sheet.now c.write_strata.new.out c.in_ok-end.end c.in_ok-written.written
+          drawn c.start.ensures.span c.start.ensures.holds e.plan e.carried e.rest c.in_ok-end.ensures
+          (c.in_ok-written.ensures.recast m lawful d.1.accepted (drawn_card m span t c.args.card.now fresh d));
       refused = tt;
     }

@@ -30,9 +30,9 @@ loop-rest-preserved c =
         read.0 ++ (line ∷ []),
         lines_more c.args.text.now c.loop-rest.rest.now line after read.0 read.1 (c.first_line.ensures.lines some),
         ask_pushed read.0 (vec_items c.loop-rest.requests) (vec_items c.push.new.self) line c.in-Some.asked
-            c.in-ok-push.ensures.items read.2 c.in-Some.ensures,
+            c.in_ok-push.ensures.items read.2 c.in-Some.ensures,
       ),
-      omega (arith, c.in-ok-push.ensures.len, c.first_line.ensures.shorter some, c.loop-rest.invariant.2),
+      omega (arith, c.in_ok-push.ensures.len, c.first_line.ensures.shorter some, c.loop-rest.invariant.2),
     )
 
 pub returns : goal.returns

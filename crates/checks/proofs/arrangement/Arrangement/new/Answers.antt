@@ -3,5 +3,5 @@ use Rattle.std.proofs.lemmas.Bool.{both_ways}
 use Rattle.checks.proofs.Marks.{marked_none}
 use Rattle.checks.proofs.arrangement.Arrangement.new.Goals as goal
 
-pub invariant-of-result : goal.invariant-of-result
-invariant-of-result c = (omega arith, (refl, (refl, (λ u v e. absurd (both_ways _ (marked_none 256 c.empty.result c.empty.ensures u v) e), tt))))
+pub invariant_of-result : goal.invariant_of-result
+invariant_of-result c = (omega arith, (refl, (refl, (λ u v e. absurd (both_ways _ (marked_none 256 c.empty.result c.empty.ensures u v) e), tt))))

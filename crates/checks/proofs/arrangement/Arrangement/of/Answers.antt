@@ -26,8 +26,8 @@ loop-v-preserved c =
           (Precedes m (places_of c.args.draft.now)) (c.row_of.ensures.exact m f o) (c.loop-v.invariant.3 m f o),
     )
 
-pub invariant-of-result : goal.invariant-of-result
-invariant-of-result c =
+pub invariant_of-result : goal.invariant_of-result
+invariant_of-result c =
     let done : c.loop-v.v ≡ c.args.draft.now.count = omega arith in (
       c.args.draft.now.few,
       (
