@@ -6,11 +6,11 @@ use Rattle.bench.proofs.running.run_bytes.Goals as goal
 pub returns-in_err-issue : goal.returns-in_err-issue
 returns-in_err-issue g c =
     let o = c.in_ok-open.ensures in
-    let p = err_from_is_err_and c.from-residual-in_err-issue.result c.from-residual-in_err-issue.ensures.1 in
+    let p = err_from_is_err_and c.from_residual-in_err-issue.result c.from_residual-in_err-issue.ensures.1 in
     let f = c.in_err-issue.field-0.0 in
     let d = c.in_err-issue.ensures.answered.0 in
     on_open _ _ _ _ _ _ _ _ o.opens o.says.book o.says.task
-    (not_issued _ _ _ _ _ _ c.new-card.result c.from-residual-in_err-issue.result f (p.1 ∙ ap Err p.2) c.new-card.ensures d refl)
+    (not_issued _ _ _ _ _ _ c.new-card.result c.from_residual-in_err-issue.result f (p.1 ∙ ap Err p.2) c.new-card.ensures d refl)
 
 pub returns-then-out-script : goal.returns-then-out-script
 returns-then-out-script g c =

@@ -18,7 +18,7 @@ returns-in_err-reach_goal g c =
     let d = c.pass_levels.new.draft in
     let h = subst (λ ws. Drafted m t (length t.levels) ws d) (sym c.of.ensures) c.in_ok-end.ensures in
     let ok = matched m t _ _ _ _ c.facts.ensures.says c.facts-2.ensures c.if-facts.false c.steps.ensures.says c.steps-else-facts.ensures c.if-steps.false in
-    let p = err_from_is_err_and c.from-residual-in_err-reach_goal.result c.from-residual-in_err-reach_goal.ensures.1 in
+    let p = err_from_is_err_and c.from_residual-in_err-reach_goal.result c.from_residual-in_err-reach_goal.ensures.1 in
     rw (p.1, p.2) (record { answer = goal_missed m t c.of.result.words d h ok _ c.in_err-reach_goal.ensures; facts = tt; drafted = tt })
 
 pub returns : goal.returns

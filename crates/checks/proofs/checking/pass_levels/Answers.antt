@@ -54,7 +54,7 @@ returns-in_err-facts g c =
     let n = next_of t.levels c.loop-level.number ps (rest c.next.new.self) (rest c.loop-level.levels) c.loop-level.invariant.0 c.in-Some.ensures in
     let z : c.copy_steps-count.result - 0 ≡ c.copy_steps-count.result = omega arith in
     let e : take (c.copy_steps-count.result - 0) c.copy_steps-count.new.steps ≡ ps = ap (λ i. take i c.copy_steps-count.new.steps) z ∙ c.copy_steps-count.ensures.steps in
-    let p = err_from_is_err_and c.from-residual.result c.from-residual.ensures.1 in
+    let p = err_from_is_err_and c.from_residual.result c.from_residual.ensures.1 in
     rw (p.1, p.2) (level_refused (g.B.Book.model c.args.book.now) t c.loop-level.number c.loop-level.facts c.loop-level.draft c.loop-level.invariant.2 _ n.0 (n.1 ∙ sym e) c.requires.0 _ c.in_err-facts.ensures)
 
 pub loop-level-preserved : goal.loop-level-preserved

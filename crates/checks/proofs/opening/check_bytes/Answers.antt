@@ -19,9 +19,9 @@ at-fine v u r P e p = rw e p
 
 pub returns-in_err-open : goal.returns-in_err-open
 returns-in_err-open c =
-    let p = err_from_is_err_and c.from-residual.result c.from-residual.ensures.1 in
+    let p = err_from_is_err_and c.from_residual.result c.from_residual.ensures.1 in
     record {
-      answer = at-fault _ c.in_err-open.field-0.0 c.from-residual.result _ (sym c.in_err-open.ensures.verdict) (p.1 ∙ ap Err p.2);
+      answer = at-fault _ c.in_err-open.field-0.0 c.from_residual.result _ (sym c.in_err-open.ensures.verdict) (p.1 ∙ ap Err p.2);
       facts = rw p.1 refl;
     }
 

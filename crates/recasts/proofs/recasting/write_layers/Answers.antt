@@ -17,7 +17,7 @@ returns-in_err-check_room c =
     let s = list_length c.list_of-start.result.now t.start c.list_of-start.ensures.whole c.list_of-start.ensures.says in
     let g = list_length c.list_of-goal.result.now t.goal c.list_of-goal.ensures.whole c.list_of-goal.ensures.says in
     let n = length_layered t l _ _ c.total.result c.of-header.result c.of-header.ensures s g c.total.ensures.is in
-    let p = err_from_is_err_and c.from-residual.result c.from-residual.ensures.1 in
+    let p = err_from_is_err_and c.from_residual.result c.from_residual.ensures.1 in
     rw (p.1, p.2) (short_written (layered t l) c.args.out.now _ _ (c.sheet_length-needed.ensures ∙ n) c.in_err-check_room.ensures)
 
 pub put_list-at-requires-2 : goal.put_list-at-requires-2
