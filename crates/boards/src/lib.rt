@@ -1,4 +1,6 @@
 // Boards: sets of facts that steps change.
+#![tactic(auto)]
+
 pub mod bit_board;
 pub mod board;
 pub mod changes;
