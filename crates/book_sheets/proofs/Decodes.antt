@@ -1,9 +1,9 @@
 -- The encoding of a lawful content passes, and says that content.
-use Rattle.std.proofs.Common.{◌≡◌, ℕ, suc, ◌+◌, ◌-◌, ◌*◌, ◌<◌, ◌≤◌, leb, List, [], ◌∷◌, ◌++◌, length, get_or, drop, is_ok, sym, refl, ap, ◌∙◌, inl, inr, arith, length-append}
+use Rattle.std.proofs.Common.{◌≡◌, ℕ, suc, ◌+◌, ◌*◌, ◌<◌, ◌≤◌, leb, List, [], ◌∷◌, ◌++◌, length, get_or, drop, is_ok, sym, refl, ap, ◌∙◌, inl, inr, arith, length-append}
 use Rattle.std.proofs.lemmas.Bool.{le-leb, not_from_false, cases_eq}
 use Rattle.std.specs.List.{AllByRecursion as All}
 use Rattle.sheets.specs.declared.fault.Refusal.TheVariants.{AddedToo, Trailing}
-use Rattle.sheets.specs.Verdicts.{◌then◌, up_to}
+use Rattle.sheets.specs.Verdicts.{up_to}
 use Rattle.sheets.specs.Fields.{be16, be32, field, limit, offset, two, four, twos}
 use Rattle.sheets.specs.Lists.{entry, entries, among, numbers_at, Ascending}
 use Rattle.sheets.proofs.Verdicts.{Passes, then_pass, must_pass, up_to_pass, field_pass, limit_pass, offset_pass}

@@ -3,7 +3,7 @@ use Rattle.std.proofs.Common.{◌≡◌, ℕ, zero, suc, ◌+◌, ◌*◌, ◌<�
 use Rattle.std.proofs.lemmas.Bool.{not-true, both_ways}
 use Rattle.std.specs.List.{AllByRecursion as All}
 use Rattle.sheets.specs.declared.fault.Refusal.TheVariants.{AddedToo}
-use Rattle.sheets.specs.Verdicts.{◌then◌, up_to}
+use Rattle.sheets.specs.Verdicts.{up_to}
 use Rattle.sheets.specs.Fields.{be16, be32}
 use Rattle.sheets.specs.Lists.{entry, among, numbers_at}
 use Rattle.sheets.proofs.Verdicts.{Passes, then_right, must_true, up_to_each}
@@ -23,7 +23,7 @@ lawful_list xs f at n few h = record { few = omega (arith, length_numbers_at xs 
 -- the limits of a row
 record Limits (xs : List ℕ) (r : ℕ) : Type 0 where
   pub seconds : be32 xs (r + 4) ≤ 1000000
-  pub rules : get_or xs (r + 8) 0 ≤ 250
+  pub needs : get_or xs (r + 8) 0 ≤ 250
   pub adds : get_or xs (r + 9) 0 ≤ 250
   pub deletes : get_or xs (r + 10) 0 ≤ 250
 

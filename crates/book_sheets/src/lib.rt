@@ -1,4 +1,6 @@
 // Book sheets: archived bytes opened as a step book.
+#![tactic(auto)]
+
 ghost use Rattle.book_sheets.specs.Example.{Worked};
 
 pub mod book_sheet;

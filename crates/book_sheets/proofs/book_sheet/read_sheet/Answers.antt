@@ -12,7 +12,7 @@ returns-in-Ok c =
     let ok = ap is_ok (sym p) in
     record {
       verdict = ap (verdict_on Sheet.Book) p;
-      code = one_sheet.sheet c.args.bytes.now (λ i. (c.type-inv.bytes i).fits) ok;
+      code = one_sheet.sheet c.args.bytes.now (λ i. (c.type_inv.bytes i).fits) ok;
       good = (ok, ∣ sheet_lawful c.args.bytes.now ok ∣₁);
       law = one_sheet;
     }

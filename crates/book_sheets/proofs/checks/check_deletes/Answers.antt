@@ -4,12 +4,12 @@ use Rattle.sheets.proofs.Verdicts.{up_to_more, up_to_stops}
 use Rattle.book_sheets.specs.Layout.{deleted}
 use Rattle.book_sheets.proofs.checks.check_deletes.Goals as goal
 
-pub returns-in-err-check-deleted : goal.returns-in-err-check-deleted
-returns-in-err-check-deleted c =
-    let p = err_from_is_err_and c.from-residual.result c.from-residual.ensures.1 in
-    rw (p.1, p.2) (up_to_stops (deleted c.args.bytes.now c.args.facts c.args.adds-at c.args.adds c.args.at) c.loop-j.j c.args.n _ (omega arith) c.loop-j.invariant.0 c.in-err-check-deleted.ensures)
+pub returns-in_err-check_deleted : goal.returns-in_err-check_deleted
+returns-in_err-check_deleted c =
+    let p = err_from_is_err_and c.from_residual.result c.from_residual.ensures.1 in
+    rw (p.1, p.2) (up_to_stops (deleted c.args.bytes.now c.args.facts c.args.adds_at c.args.adds c.args.at) c.loop-j.j c.args.n _ (omega arith) c.loop-j.invariant.0 c.in_err-check_deleted.ensures)
 
 pub loop-j-preserved : goal.loop-j-preserved
 loop-j-preserved c =
-    let h = c.in-ok-check-deleted.ensures in
-    (up_to_more (deleted c.args.bytes.now c.args.facts c.args.adds-at c.args.adds c.args.at) c.loop-j.j c.loop-j.invariant.0 h.0, omega arith)
+    let h = c.in_ok-check_deleted.ensures in
+    (up_to_more (deleted c.args.bytes.now c.args.facts c.args.adds_at c.args.adds c.args.at) c.loop-j.j c.loop-j.invariant.0 h.0, omega arith)

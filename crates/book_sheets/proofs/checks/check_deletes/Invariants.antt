@@ -5,4 +5,4 @@ use Rattle.book_sheets.proofs.checks.check_deletes.Given as goal
 
 abbrev pub invariant-loop-j : goal.invariant-loop-j
 invariant-loop-j l =
-    (up_to (deleted l.bytes l.facts l.adds-at l.adds l.at) l.j ≡ fine) × (l.at + 2 * l.j ≤ length l.bytes)
+    (up_to (deleted l.bytes l.facts l.adds_at l.adds l.at) l.j ≡ fine) × (l.at + 2 * l.j ≤ length l.bytes)

@@ -4,12 +4,12 @@ use Rattle.sheets.proofs.Verdicts.{up_to_more, up_to_stops}
 use Rattle.book_sheets.specs.Layout.{row, row_at}
 use Rattle.book_sheets.proofs.checks.check_rows.Goals as goal
 
-pub returns-in-err-check-row : goal.returns-in-err-check-row
-returns-in-err-check-row c =
-    let p = err_from_is_err_and c.from-residual.result c.from-residual.ensures.1 in
-    rw (p.1, p.2) (up_to_stops (λ a. row c.args.bytes.now (row_at a)) c.loop-a.a c.args.steps _ (omega arith) c.loop-a.invariant.0 c.in-err-check-row.ensures)
+pub returns-in_err-check_row : goal.returns-in_err-check_row
+returns-in_err-check_row c =
+    let p = err_from_is_err_and c.from_residual.result c.from_residual.ensures.1 in
+    rw (p.1, p.2) (up_to_stops (λ a. row c.args.bytes.now (row_at a)) c.loop-a.a c.args.steps _ (omega arith) c.loop-a.invariant.0 c.in_err-check_row.ensures)
 
 pub loop-a-preserved : goal.loop-a-preserved
 loop-a-preserved c =
-    let h = c.in-ok-check-row.ensures in
+    let h = c.in_ok-check_row.ensures in
     (up_to_more (λ a. row c.args.bytes.now (row_at a)) c.loop-a.a c.loop-a.invariant.0 h.0, omega arith)
