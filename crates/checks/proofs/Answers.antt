@@ -1,5 +1,5 @@
 -- A plan has one answer.
-use Rattle.std.proofs.Common.{◌≡◌, ℕ, zero, suc, ◌+◌, ◌<◌, ◌≤◌, Bool, true, false, not, ◌&&◌, ◌⊎◌, List, [], ◌∷◌, length, get_or, take, Ok, Err, Result, sym, refl, ap, ◌∙◌, subst, inl, inr, arith}
+use Rattle.std.proofs.Common.{◌≡◌, ℕ, zero, suc, ◌<◌, Bool, not, ◌&&◌, List, [], ◌∷◌, length, get_or, take, Ok, Err, sym, refl, ap, ◌∙◌, subst, inl, inr, arith}
 use Rattle.std.specs.List.{ContainsAt as Has, AllByRecursion}
 use Rattle.std.proofs.ByRecursion.{all-has}
 use Rattle.std.proofs.lemmas.Bool.{cases_order, both_ways, and_parts, not-true}
@@ -9,9 +9,8 @@ use Rattle.books.specs.Listed.{listed}
 use Rattle.plans.specs.Steps.{Met, passed}
 use Rattle.plans.specs.Plans.{Authorized, Recognized, finally, Accepted}
 use Rattle.task_sheets.specs.Content.{Task}
-use Rattle.checks.specs.declared.fault.PlanFault.{PlanFault}
 use Rattle.checks.specs.declared.fault.PlanFault.TheVariants.{Sheet, Mismatch, NeedMissing, NoOrder, GoalMissing}
-use Rattle.checks.specs.Checked.{Matches, facts_after_levels, PassTo, Lacks, Stuck, Misses, Checked, OneAnswer}
+use Rattle.checks.specs.Checked.{facts_after_levels, PassTo, Lacks, Stuck, Misses, OneAnswer}
 
 -- level k of a recognized plan passes
 pub passes : (m : Model) (E : Facts) (plan : List (List ℕ)) → Recognized m E plan → (k : ℕ) → k < length plan

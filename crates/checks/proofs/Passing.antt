@@ -1,7 +1,7 @@
 -- The levels of a plan, passed one after the other.
-use Rattle.std.proofs.Common.{◌≡◌, ℕ, zero, suc, ◌+◌, ◌-◌, ◌<◌, ◌≤◌, Bool, true, false, not, ◌&&◌, ◌⊎◌, List, [], ◌∷◌, ◌++◌, length, get_or, take, drop, Ok, Err, sym, refl, ap, ◌∙◌, subst, inl, inr, add-one, arith}
+use Rattle.std.proofs.Common.{◌≡◌, ℕ, zero, suc, ◌+◌, ◌-◌, ◌<◌, ◌≤◌, true, not, ◌&&◌, List, [], ◌∷◌, ◌++◌, length, get_or, take, drop, Err, sym, ap, ◌∙◌, subst, inl, inr, add-one, arith}
 use mathlib.Core.Path.{fun_ext}
-use Rattle.std.specs.List.{ContainsAt as Has, HoldsAt, AllByRecursion}
+use Rattle.std.specs.List.{HoldsAt, AllByRecursion}
 use Rattle.std.proofs.lemmas.List.{take_more, take_all, drop_more, length-drop, length-take-le}
 use Rattle.std.proofs.ByRecursion.{All-from_get_or, All-get_or}
 use Rattle.std.proofs.lemmas.List.Sorted.{length_permutation}
@@ -10,12 +10,10 @@ use Rattle.facts.specs.Sets.{holds, First}
 use Rattle.books.specs.Book.{Model, Facts}
 use Rattle.books.specs.Gathered.{Gathers}
 use Rattle.books.specs.Listed.{listed}
-use Rattle.books.specs.declared.step_facts.StepFacts.{StepFacts}
-use Rattle.plans.specs.Steps.{Met, passed}
+use Rattle.plans.specs.Steps.{Met}
 use Rattle.plans.specs.Plans.{Authorized, Recognized, Accepted, finally}
 use Rattle.plans.specs.Plans as plans
-use Rattle.plans.specs.Order.{Picked}
-use Rattle.plans.specs.Places.{Places, Stands, Arranged}
+use Rattle.plans.specs.Places.{Stands, Arranged}
 use Rattle.plans.proofs.Arranging.{Agree, arranged_none, arranged_more}
 use Rattle.plans.proofs.Picks.{turning}
 use Rattle.sheets.specs.Lists.{Ascending}
@@ -26,7 +24,7 @@ use Rattle.checks.specs.declared.fault.PlanFault.{PlanFault}
 use Rattle.checks.specs.declared.fault.PlanFault.TheVariants.{Sheet, Mismatch, NeedMissing, NoOrder, GoalMissing}
 use Rattle.checks.specs.declared.draft.Draft.{Draft}
 use Rattle.checks.specs.Tables.{blank}
-use Rattle.checks.specs.Checked.{Matches, PassTo, facts_after_levels, Checked, EndsIn, Reached}
+use Rattle.checks.specs.Checked.{Matches, facts_after_levels, Checked, EndsIn, Reached}
 use Rattle.checks.specs.Drafts.{places_of, Filled, Drafted, PlanDrafted}
 use Rattle.checks.specs.Levels.{Grown, LevelPassed, LacksNeed, LevelRefused}
 

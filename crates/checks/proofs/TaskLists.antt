@@ -1,13 +1,10 @@
 -- The lists of a task, read number by number.
-use Rattle.std.proofs.Common.{◌≡◌, ℕ, zero, suc, ◌+◌, ◌<◌, ◌≤◌, Bool, true, false, ◌&&◌, ◌||◌, eqb, ltb, ◌⊎◌, List, [], ◌∷◌, ◌++◌, length, get_or, take, sym, refl, ap, ◌∙◌, subst, inl, inr, arith}
-use Rattle.std.specs.List.{AllByRecursion}
+use Rattle.std.proofs.Common.{◌≡◌, ℕ, zero, suc, ◌+◌, ◌<◌, Bool, true, false, ◌&&◌, ◌||◌, eqb, ltb, List, [], ◌∷◌, ◌++◌, length, get_or, take, sym, refl, ap, ◌∙◌, subst, inl, inr, arith}
 use Rattle.std.proofs.lemmas.List.{take_more, get_or_past}
 use Rattle.std.proofs.ByRecursion.{All-get_or}
 use Rattle.std.proofs.lemmas.Bool.{cases_lt, cases_eq, ne_eqb}
 use Rattle.std.proofs.lemmas.Bool.Decides.{nat_tests}
 use Rattle.books.specs.Listed.{listed}
-use Rattle.sheets.specs.Lists.{Ascending}
-use Rattle.sheets.proofs.Verdicts.{Passes}
 use Rattle.task_sheets.specs.declared.item.Part.{Part}
 use Rattle.task_sheets.specs.declared.item.Part.TheVariants.{Start as StartPart, Goal as GoalPart, Level as LevelPart}
 use Rattle.task_sheets.specs.declared.task_sheet.TaskSheet.{TaskSheet}

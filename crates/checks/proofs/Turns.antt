@@ -1,6 +1,6 @@
 -- The turns of a level: rows of positions show which step is free, and the draft grows by the steps taken.
-use Rattle.std.proofs.Common.{◌≡◌, ℕ, ◌+◌, ◌<◌, ◌≤◌, Bool, true, false, not, ◌&&◌, eqb, ◌⊎◌, List, [], ◌∷◌, ◌++◌, length, get_or, set, sym, refl, ap, ◌∙◌, subst, inl, inr, arith, length-append, get_or-set_other, get_or-set_same}
-use Rattle.std.specs.List.{ContainsAt as Has, HoldsAt, AllByRecursion}
+use Rattle.std.proofs.Common.{◌≡◌, ℕ, ◌+◌, ◌<◌, ◌≤◌, Bool, true, not, ◌&&◌, eqb, List, [], ◌∷◌, ◌++◌, length, get_or, set, sym, refl, ap, ◌∙◌, subst, inl, inr, arith, length-append, get_or-set_other, get_or-set_same}
+use Rattle.std.specs.List.{ContainsAt as Has}
 use Rattle.std.specs.List.Sorted.{IsPermutation}
 use Rattle.std.proofs.lemmas.List.{get_or_push, get_or_append_left, length_push}
 use Rattle.std.proofs.lemmas.List.Sorted.{length_permutation}
@@ -12,9 +12,9 @@ use Rattle.books.specs.Gathered.{Gathers}
 use Rattle.books.specs.declared.step_facts.StepFacts.{StepFacts}
 use Rattle.plans.specs.Steps.{Authorizes}
 use Rattle.plans.specs.Plans.{Ascending, Authorized}
-use Rattle.plans.specs.Order.{Before, Picked}
+use Rattle.plans.specs.Order.{Picked}
 use Rattle.plans.proofs.Members.{has_first, pairwise_get_or}
-use Rattle.plans.proofs.Taking.{FreeAt, Taking, taking_none, taking_all, taking_stuck, taking_more}
+use Rattle.plans.proofs.Taking.{FreeAt, Taking, taking_all, taking_stuck, taking_more}
 use Rattle.checks.specs.Tables.{blank}
 use Rattle.checks.specs.Levels.{Rowed, ReadyAt, Grown}
 use Rattle.checks.specs.declared.draft.Draft.{Draft}

@@ -1,5 +1,5 @@
 -- What the check of a plan answers.
-use Rattle.std.specs.Prelude.{◌≡◌, ℕ, suc, ◌<◌, Bool, true, false, not, ◌&&◌, List, [], ◌∷◌, length, take, Ok, Err, Result, slice_index_or}
+use Rattle.std.specs.Prelude.{◌≡◌, ℕ, suc, ◌<◌, true, not, ◌&&◌, List, [], length, take, Ok, Err, Result, slice_index_or}
 use Rattle.std.specs.List.{ContainsAt as Has, AllByRecursion}
 use Rattle.facts.specs.Sets.{holds, First}
 use Rattle.books.specs.Book.{Model, Facts}

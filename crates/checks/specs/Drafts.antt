@@ -1,16 +1,14 @@
 -- What a draft holds of a plan.
-use Rattle.std.specs.Prelude.{◌≡◌, ℕ, ◌<◌, true, List, length, take, Ok, Err, Result, slice_index_or}
+use Rattle.std.specs.Prelude.{◌≡◌, ℕ, ◌<◌, List, take, slice_index_or}
 use Rattle.std.specs.List.{HoldsAt}
 use Rattle.facts.specs.Sets.{holds}
 use Rattle.books.specs.Book.{Model}
 use Rattle.books.specs.Gathered.{Gathers}
-use Rattle.books.specs.Listed.{listed}
 use Rattle.plans.specs.Places.{Places, Arranged}
 use Rattle.task_sheets.specs.Content.{Task, total}
 use Rattle.checks.specs.declared.draft.Draft.{Draft}
-use Rattle.checks.specs.declared.fault.PlanFault.{PlanFault}
 use Rattle.checks.specs.Tables.{blank, places_in}
-use Rattle.checks.specs.Checked.{Matches, PassTo, facts_after_levels, Checked}
+use Rattle.checks.specs.Checked.{PassTo, facts_after_levels}
 
 -- the places of a draft
 abbrev pub places_of : Draft → Places

@@ -1,5 +1,5 @@
 -- Passing one level of a plan.
-use Rattle.std.specs.Prelude.{◌≡◌, ℕ, ◌+◌, ◌<◌, Bool, true, false, not, ◌&&◌, List, [], ◌∷◌, length, Ok, Err, Decides, Result, slice_index, slice_index_or}
+use Rattle.std.specs.Prelude.{◌≡◌, ℕ, ◌+◌, ◌<◌, true, false, not, ◌&&◌, List, length, Decides, slice_index, slice_index_or}
 use Rattle.std.specs.List.{ContainsAt as Has, HoldsAt, AllByRecursion}
 use Rattle.facts.specs.Sets.{holds, First}
 use Rattle.facts.specs.declared.NumberSet.{NumberSet}

@@ -1,5 +1,5 @@
 -- The table of precedence, a row of places for each place.
-use Rattle.std.specs.Prelude.{ℕ, Bool, List, [], ◌∷◌, map, slice_index_or}
+use Rattle.std.specs.Prelude.{ℕ, Bool, List, [], map, slice_index_or}
 use Rattle.facts.specs.declared.NumberSet.{NumberSet}
 use Rattle.facts.specs.Sets.{holds}
 

@@ -1,5 +1,5 @@
 -- What the sets of facts of two steps share.
-use Rattle.std.specs.Prelude.{◌≡◌, ℕ, Bool, true, false, ◌&&◌, ◌⊎◌}
+use Rattle.std.specs.Prelude.{◌≡◌, ℕ, true, false, ◌&&◌, ◌⊎◌}
 use Rattle.facts.specs.declared.NumberSet.{NumberSet}
 use Rattle.facts.specs.Sets.{holds}
 use Rattle.books.specs.declared.step_facts.StepFacts.{StepFacts}

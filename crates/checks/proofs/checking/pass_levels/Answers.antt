@@ -1,16 +1,14 @@
-use Rattle.std.proofs.Common.{◌≡◌, ℕ, ◌+◌, ◌-◌, ◌<◌, ◌≤◌, List, [], length, get_or, take, drop, sym, ap, ◌∙◌, subst, arith, length-drop}
+use Rattle.std.proofs.Common.{◌≡◌, ◌-◌, length, take, sym, ap, ◌∙◌, subst, arith, length-drop}
 use Rattle.std.proofs.lemmas.Result.{err_from_is_err_and}
-use Rattle.facts.specs.Sets.{holds}
 use Rattle.plans.specs.Plans as plans
-use Rattle.task_sheets.specs.Content.{Task, LawfulTask}
 use Rattle.task_sheets.specs.Parts.{numbers_of}
 use Rattle.task_sheets.specs.Opened.{task_of, rest}
 use Rattle.checks.proofs.TaskLists.{sheet_lawful}
-use Rattle.checks.proofs.Passing.{next_of, level_room, level_lawful, level_refused, ascending, drafted_none, drafted_more, drafted_all}
+use Rattle.checks.proofs.Passing.{next_of, level_room, level_lawful, level_refused, ascending, drafted_more, drafted_all}
 use Rattle.checks.proofs.checking.pass_levels.Goals as goal
 
-pub overflow-add-number : goal.overflow-add-number
-overflow-add-number g c =
+pub overflow_add-number : goal.overflow_add-number
+overflow_add-number g c =
     let n = next_of (task_of c.args.task.now).levels c.loop-level.number (numbers_of c.in-Some.level) (rest c.next.new.self) (rest c.loop-level.levels) c.loop-level.invariant.0 c.in-Some.ensures in
     let w = (sheet_lawful c.args.task.now).few_levels in
     omega arith
@@ -20,13 +18,13 @@ copy_steps-count-requires g c =
     let t = task_of c.args.task.now in
     let w = sheet_lawful c.args.task.now in
     let ps = numbers_of c.in-Some.level in
-    let n = next_of t.levels c.loop-level.number ps (rest c.next.new.self) (rest c.loop-level.levels) c.loop-level.invariant.0 c.in-Some.ensures in (
-      omega (arith, level_room (g.B.Book.model c.args.book.now) t c.loop-level.number c.loop-level.facts c.loop-level.draft c.loop-level.invariant.2 ps n.0 n.1 w),
-      λ j l. omega (arith, (level_lawful (g.B.Book.model c.args.book.now) t c.loop-level.number c.loop-level.facts c.loop-level.draft c.loop-level.invariant.2 ps n.0 n.1 w).ascending.below j l, w.few_steps),
-    )
+    let n = next_of t.levels c.loop-level.number ps (rest c.next.new.self) (rest c.loop-level.levels) c.loop-level.invariant.0 c.in-Some.ensures in record {
+      level_len_bound = omega (arith, level_room (g.B.Book.model c.args.book.now) t c.loop-level.number c.loop-level.facts c.loop-level.draft c.loop-level.invariant.2 ps n.0 n.1 w);
+      by_index = λ j l. omega (arith, (level_lawful (g.B.Book.model c.args.book.now) t c.loop-level.number c.loop-level.facts c.loop-level.draft c.loop-level.invariant.2 ps n.0 n.1 w).ascending.below j l, w.few_steps);
+    }
 
-pub slice-bounds-pass_level-end : goal.slice-bounds-pass_level-end
-slice-bounds-pass_level-end g c =
+pub slice_bounds-pass_level-end : goal.slice_bounds-pass_level-end
+slice_bounds-pass_level-end g c =
     let t = task_of c.args.task.now in
     let ps = numbers_of c.in-Some.level in
     let n = next_of t.levels c.loop-level.number ps (rest c.next.new.self) (rest c.loop-level.levels) c.loop-level.invariant.0 c.in-Some.ensures in

@@ -1,4 +1,4 @@
-use Rattle.std.proofs.Common.{◌≡◌, ◌≤◌, length, drop}
+use Rattle.std.proofs.Common.{◌≡◌, length, drop}
 use Rattle.task_sheets.specs.Opened.{task_of, rest}
 use Rattle.checks.specs.Drafts.{Drafted}
 use Rattle.checks.proofs.checking.pass_levels.Given as goal

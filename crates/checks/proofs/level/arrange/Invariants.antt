@@ -7,6 +7,6 @@ use Rattle.checks.proofs.level.arrange.Given as goal
 
 abbrev pub invariant-loop-turn : goal.invariant-loop-turn
 invariant-loop-turn l =
-    (l.draft.count ≡ l.initial.draft.count + l.-turn)
+    (l.draft.count ≡ l.initial.draft.count + l._turn)
     × ((m : Model) → Tabled m l.steps l.table → Rowed m l.steps l.rows
-    → (bs : List ℕ) × Taking m l.steps (holds l.left.words) bs × (length bs ≡ l.-turn) × Grown m bs l.number l.initial.draft l.draft)
+    → (bs : List ℕ) × Taking m l.steps (holds l.left.words) bs × (length bs ≡ l._turn) × Grown m bs l.number l.initial.draft l.draft)

@@ -1,4 +1,4 @@
-use Rattle.std.proofs.Common.{not, ◌&&◌, length, get_or, refl, ap, arith, rules, below_more}
+use Rattle.std.proofs.Common.{not, ◌&&◌, get_or, refl, ap, arith, below_more}
 use Rattle.std.proofs.ByRecursion.{has_get_or, All-from_get_or}
 use Rattle.facts.specs.Sets.{holds}
 use Rattle.books.specs.Gathered.{Gathers}

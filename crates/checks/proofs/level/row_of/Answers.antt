@@ -1,4 +1,4 @@
-use Rattle.std.proofs.Common.{◌≡◌, ℕ, Bool, true, false, ◌&&◌, ◌||◌, eqb, length, get_or, sym, ap, ◌∙◌, inl, inr, arith}
+use Rattle.std.proofs.Common.{◌≡◌, ℕ, Bool, ◌&&◌, ◌||◌, eqb, get_or, sym, ap, ◌∙◌, inl, inr, arith}
 use Rattle.facts.specs.Sets.{holds}
 use Rattle.facts.specs.declared.NumberSet.{NumberSet}
 use Rattle.plans.specs.Order.{Before}

@@ -5,8 +5,8 @@ use Rattle.book_sheets.specs.Content as book
 use Rattle.task_sheets.specs.Content as task
 use Rattle.checks.specs.declared.fault.PlanFault.{PlanFault}
 use Rattle.checks.specs.declared.fault.PlanFault.TheVariants.{Sheet}
-use Rattle.checks.specs.Checked.{Checked, EndsIn}
-use Rattle.checks.specs.Bytes.{Unless, BytesChecked, BytesEndIn}
+use Rattle.checks.specs.Checked.{Checked}
+use Rattle.checks.specs.Bytes.{Unless, BytesEndIn}
 use Rattle.checks.proofs.opening.check_bytes.Goals as goal
 
 -- a sheet that is refused

@@ -1,4 +1,4 @@
-use Rattle.std.proofs.Common.{◌≡◌, ◌+◌, [], ◌∷◌, ◌++◌, length, take, set, sym, ap, ◌∙◌, arith}
+use Rattle.std.proofs.Common.{◌≡◌, ◌+◌, [], ◌∷◌, ◌++◌, take, sym, ap, ◌∙◌, arith}
 use Rattle.std.proofs.lemmas.List.{take_all, take_more, take_more_set}
 use Rattle.task_sheets.specs.Parts.{numbers_of}
 use Rattle.checks.proofs.reading.copy_steps.Goals as goal
@@ -10,7 +10,7 @@ loop-j-preserved c =
       | in-Some w ↦
           (let h = w.in-Some.ensures in (
             c.match-get.array_long,
-            ap (take (c.loop-j.j + 1)) w.steps_is
+            ap (take (c.loop-j.j + 1)) w.steps-is
                 ∙ take_more_set c.loop-j.steps c.loop-j.j w.in-Some.step (omega arith)
                 ∙ ap (λ xs. xs ++ w.in-Some.step ∷ []) c.loop-j.invariant.1
                 ∙ ap (λ x. take c.loop-j.j (numbers_of c.args.level.now) ++ x ∷ []) h.1

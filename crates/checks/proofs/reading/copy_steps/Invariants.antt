@@ -1,4 +1,4 @@
-use Rattle.std.proofs.Common.{◌≡◌, ◌≤◌, length, take}
+use Rattle.std.proofs.Common.{◌≡◌, length, take}
 use Rattle.task_sheets.specs.Parts.{numbers_of}
 use Rattle.checks.proofs.reading.copy_steps.Given as goal
 

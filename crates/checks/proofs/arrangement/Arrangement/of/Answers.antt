@@ -1,4 +1,4 @@
-use Rattle.std.proofs.Common.{◌≡◌, ℕ, ◌<◌, ◌≤◌, true, ◌&&◌, ltb, length, sym, refl, ap, ◌∙◌, subst, arith}
+use Rattle.std.proofs.Common.{◌≡◌, ℕ, ◌<◌, true, ◌&&◌, ltb, length, refl, ◌∙◌, subst, arith}
 use Rattle.std.proofs.lemmas.List.{length-set}
 use Rattle.plans.specs.Places.{Precedes}
 use Rattle.plans.proofs.Arranging.{ascent}
@@ -28,20 +28,14 @@ loop-v-preserved c =
 
 pub invariant_of-result : goal.invariant_of-result
 invariant_of-result c =
-    let done : c.loop-v.v ≡ c.args.draft.now.count = omega arith in (
-      c.args.draft.now.few,
-      (
-        c.args.draft.now.sized,
-        (
-          c.loop-v.invariant.0,
-          (
-            subst (λ n. (u v : ℕ) → marked c.loop-v.before u v ≡ true → (ltb u v && ltb v n) ≡ true) done
-                (table_upward c.loop-v.v c.loop-v.before c.loop-v.invariant.1 c.loop-v.invariant.2),
-            tt,
-          ),
-        ),
-      ),
-    )
+    let done : c.loop-v.v ≡ c.args.draft.now.count = omega arith in
+    record {
+      few = c.args.draft.now.few;
+      sized = c.args.draft.now.sized;
+      tabled = c.loop-v.invariant.0;
+      upward = subst (λ n. (u v : ℕ) → marked c.loop-v.before u v ≡ true → (ltb u v && ltb v n) ≡ true) done
+          (table_upward c.loop-v.v c.loop-v.before c.loop-v.invariant.1 c.loop-v.invariant.2);
+    }
 
 pub returns : goal.returns
 returns c m t w =

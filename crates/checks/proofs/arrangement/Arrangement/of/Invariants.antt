@@ -1,4 +1,4 @@
-use Rattle.std.proofs.Common.{◌≡◌, ℕ, ◌<◌, ◌≤◌, true, false, length, MatchBool}
+use Rattle.std.proofs.Common.{◌≡◌, ℕ, ◌<◌, ◌≤◌, false, length, MatchBool}
 use Rattle.books.specs.Book.{Model}
 use Rattle.plans.specs.Places.{Precedes, InOrder}
 use Rattle.checks.specs.Drafts.{Filled, places_of}
