@@ -1,7 +1,7 @@
 -- The encoding of a lawful content passes, and says that content.
 use Rattle.std.proofs.Common.{◌≡◌, ℕ, suc, ◌+◌, ◌*◌, ◌<◌, ◌≤◌, leb, List, [], ◌∷◌, ◌++◌, length, get_or, drop, is_ok, sym, refl, ap, ◌∙◌, inl, inr, arith, length-append}
 use Rattle.std.proofs.lemmas.Bool.{le-leb, not_from_false, cases_eq}
-use Rattle.std.specs.List.{AllByRecursion as All}
+use Rattle.std.specs.List.{AllByRecursion}
 use Rattle.sheets.specs.declared.fault.Refusal.TheVariants.{AddedToo, Trailing}
 use Rattle.sheets.specs.Verdicts.{up_to}
 use Rattle.sheets.specs.Fields.{be16, be32, field, limit, offset, two, four, twos}
@@ -138,7 +138,7 @@ module _ (xs : List ℕ) (f : ℕ) (head : be16 xs 0 ≡ f) where
     pub ends : lists_at xs (a + length ss) ≡ at + length (all_lists ss)
 
   all_said : (a at : ℕ) (ss : List Step) (k l : ℕ) → Stands xs (row_at a) (step_rows at ss) k → Stands xs at (all_lists ss) l
-      → lists_at xs a ≡ at → at + 1500 * length ss ≤ 4000000 → All (LawfulStep f) ss → Said a at ss
+      → lists_at xs a ≡ at → at + 1500 * length ss ≤ 4000000 → AllByRecursion (LawfulStep f) ss → Said a at ss
   all_said a at [] k l h g e b w = record {
     rows_pass = λ i p q. absurd (omega arith);
     steps_pass = λ i p q. absurd (omega arith);

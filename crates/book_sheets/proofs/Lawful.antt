@@ -1,7 +1,7 @@
 -- What a book sheet that passes says is lawful.
 use Rattle.std.proofs.Common.{◌≡◌, ℕ, zero, suc, ◌+◌, ◌*◌, ◌<◌, ◌≤◌, not, List, length, get_or, refl, ap, ◌∙◌, arith, rules}
 use Rattle.std.proofs.lemmas.Bool.{not-true, both_ways}
-use Rattle.std.specs.List.{AllByRecursion as All}
+use Rattle.std.specs.List.{AllByRecursion}
 use Rattle.sheets.specs.declared.fault.Refusal.TheVariants.{AddedToo}
 use Rattle.sheets.specs.Verdicts.{up_to}
 use Rattle.sheets.specs.Fields.{be16, be32}
@@ -61,7 +61,7 @@ module _ (xs : List ℕ) (ok : Passes (book_verdict xs)) where
         short = lim.seconds;
       }
 
-  lawful_steps : (a n : ℕ) → a + n ≡ be16 xs 2 → All (LawfulStep (be16 xs 0)) (steps_from xs a n)
+  lawful_steps : (a n : ℕ) → a + n ≡ be16 xs 2 → AllByRecursion (LawfulStep (be16 xs 0)) (steps_from xs a n)
   lawful_steps a zero e = tt
   lawful_steps a (suc n) e = (lawful_step a (omega arith), lawful_steps (suc a) n (omega arith))
 

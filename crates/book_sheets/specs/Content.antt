@@ -1,6 +1,6 @@
 -- What a book sheet says, and the bytes that say it.
 use Rattle.std.specs.Prelude.{◌≡◌, ℕ, zero, suc, ◌+◌, ◌*◌, ◌<◌, ◌≤◌, List, [], ◌∷◌, ◌++◌, length, ◌≢◌, slice_index, slice_index_or}
-use Rattle.std.specs.List.{AllByRecursion as All}
+use Rattle.std.specs.List.{AllByRecursion}
 use Rattle.books.specs.Book.{Model}
 use Rattle.books.specs.Listed.{listed, members}
 use Rattle.sheets.specs.Fields.{be16, be32, two, four, twos}
@@ -79,7 +79,7 @@ pub record LawfulStep (f : ℕ) (s : Step) : Type 0 where
 pub record LawfulContent (c : Content) : Type 0 where
   pub few_facts : c.facts ≤ 1024
   pub few_steps : length c.steps ≤ 512
-  pub each : All (LawfulStep c.facts) c.steps
+  pub each : AllByRecursion (LawfulStep c.facts) c.steps
 
 -- the step that needs, adds and deletes nothing
 abbrev pub empty_step : Step
