@@ -1,6 +1,6 @@
 -- The content of a book is lawful and means the book, and a lawful content is that of the book that it means.
-use Rattle.std.proofs.Common.{◌≡◌, ℕ, zero, suc, ◌<◌, ◌≤◌, true, false, ◌&&◌, ltb, List, [], ◌∷◌, ◌++◌, length, get_or, sym, refl, ap, ◌∙◌, subst, inl, inr, arith}
-use Rattle.std.specs.List.{AllByRecursion as All}
+use Rattle.std.proofs.Common.{◌≡◌, ℕ, zero, suc, ◌<◌, ◌≤◌, true, false, ◌&&◌, ltb, List, [], ◌∷◌, length, get_or, sym, refl, ap, ◌∙◌, subst, inl, inr, arith}
+use Rattle.std.specs.List.{AllByRecursion}
 use Rattle.std.proofs.ByRecursion.{All-push}
 use Rattle.std.proofs.lemmas.Bool.{cases_lt, lt-ltb, both_ways, and_from}
 use Rattle.std.proofs.lemmas.List.{length_push, get_or_push, get_or_append_left, get_or_past}
@@ -57,7 +57,7 @@ step_lawful m h a =
       short = h.short a;
     }
 
-steps_lawful : (m : Model) → Lawful m → (n : ℕ) → All (LawfulStep m.facts) (steps_in m n)
+steps_lawful : (m : Model) → Lawful m → (n : ℕ) → AllByRecursion (LawfulStep m.facts) (steps_in m n)
 steps_lawful m h zero = tt
 steps_lawful m h (suc n) = All-push (LawfulStep m.facts) (steps_in m n) (step_in m n) (steps_lawful m h n) (step_lawful m h n)
 

@@ -19,7 +19,7 @@ enum Relation {
 
 // Whether fact `p` stands in the relation to step `a`.
 fn is_related<B: Book>(book: &B, relation: Relation, a: usize, p: usize) -> bool
-    ensures { result ≡ related (model book.now) relation a p }
+    ensures { result ≡ related (B.model book.now) relation a p }
 {
     match relation {
         Relation::Needs => book.needs(a, p),
@@ -30,7 +30,7 @@ fn is_related<B: Book>(book: &B, relation: Relation, a: usize, p: usize) -> bool
 
 // How many facts stand in the relation to step `a`.
 fn count_related<B: Book>(book: &B, relation: Relation, a: usize) -> u8
-    ensures { result ≡ length (related_list (model book.now) relation a) }
+    ensures { result ≡ length (related_list (B.model book.now) relation a) }
 {
     let facts = book.facts();
     let mut n = 0;
@@ -53,7 +53,7 @@ struct Sizes {
 impl Sizes {
     // The sizes of step `a`.
     fn of<B: Book>(book: &B, a: usize) -> Sizes
-        ensures { SizesOf (step_in (model book.now) a) result }
+        ensures { SizesOf (step_in (B.model book.now) a) result }
     {
         Sizes {
             needs: count_related(book, Relation::Needs, a),
@@ -73,8 +73,8 @@ impl Sizes {
 
 // The length of the book's sheet, which opens and means the book.
 fn sheet_length<B: Book>(book: &B) -> usize
-    ensures is { result ≡ length (bytes_of (model book.now)) }
-    ensures means { Means (bytes_of (model book.now)) (model book.now) }
+    ensures is { result ≡ length (bytes_of (B.model book.now)) }
+    ensures means { Means (bytes_of (B.model book.now)) (B.model book.now) }
     ensures again { Again }
 {
     let steps = book.steps();
@@ -88,7 +88,7 @@ fn sheet_length<B: Book>(book: &B) -> usize
 // Writes the header at `at`, and answers the place behind it.
 fn put_header<B: Book>(out: &mut [u8], at: usize, book: &B) -> usize
     requires { at + 12 ≤ length out.old }
-    ensures { Wrote out.old at (header_of (model book.now)) out.new result }
+    ensures { Wrote out.old at (header_of (B.model book.now)) out.new result }
 {
     let steps = book.steps();
     let at = put_u16(out, at, book.facts() as u16);
@@ -109,8 +109,8 @@ fn put_row(out: &mut [u8], at: usize, lists: u32, seconds: u32, sizes: Sizes) ->
 
 // Writes the rows of all steps at `at`, and answers the place behind them.
 fn put_rows<B: Book>(out: &mut [u8], at: usize, book: &B) -> usize
-    requires { at + 11 * (model book.now).steps ≤ length out.old }
-    ensures { Wrote out.old at (rows_of (model book.now)) out.new result }
+    requires { at + 11 * (B.model book.now).steps ≤ length out.old }
+    ensures { Wrote out.old at (rows_of (B.model book.now)) out.new result }
 {
     let steps = book.steps();
     let mut place = at;
@@ -125,8 +125,8 @@ fn put_rows<B: Book>(out: &mut [u8], at: usize, book: &B) -> usize
 
 // Writes at `at` the facts that stand in the relation to step `a`, and answers the place behind them.
 fn put_related<B: Book>(out: &mut [u8], at: usize, book: &B, relation: Relation, a: usize) -> usize
-    requires { at + 2 * length (related_list (model book.now) relation a) ≤ length out.old }
-    ensures { Wrote out.old at (twos (related_list (model book.now) relation a)) out.new result }
+    requires { at + 2 * length (related_list (B.model book.now) relation a) ≤ length out.old }
+    ensures { Wrote out.old at (twos (related_list (B.model book.now) relation a)) out.new result }
 {
     let facts = book.facts();
     let mut place = at;
@@ -140,8 +140,8 @@ fn put_related<B: Book>(out: &mut [u8], at: usize, book: &B, relation: Relation,
 
 // Writes the lists of step `a` at `at`, and answers the place behind them.
 fn put_lists<B: Book>(out: &mut [u8], at: usize, book: &B, a: usize) -> usize
-    requires { at + length (lists_of (step_in (model book.now) a)) ≤ length out.old }
-    ensures { Wrote out.old at (lists_of (step_in (model book.now) a)) out.new result }
+    requires { at + length (lists_of (step_in (B.model book.now) a)) ≤ length out.old }
+    ensures { Wrote out.old at (lists_of (step_in (B.model book.now) a)) out.new result }
 {
     let at = put_related(out, at, book, Relation::Needs, a);
     let at = put_related(out, at, book, Relation::Adds, a);
@@ -150,8 +150,8 @@ fn put_lists<B: Book>(out: &mut [u8], at: usize, book: &B, a: usize) -> usize
 
 // Writes the lists of all steps at `at`, and answers the place behind them.
 fn put_all_lists<B: Book>(out: &mut [u8], at: usize, book: &B) -> usize
-    requires { at + length (lists_in (model book.now)) ≤ length out.old }
-    ensures { Wrote out.old at (lists_in (model book.now)) out.new result }
+    requires { at + length (lists_in (B.model book.now)) ≤ length out.old }
+    ensures { Wrote out.old at (lists_in (B.model book.now)) out.new result }
 {
     let steps = book.steps();
     let mut place = at;
@@ -163,8 +163,8 @@ fn put_all_lists<B: Book>(out: &mut [u8], at: usize, book: &B) -> usize
 
 // Writes the whole sheet at the front of the buffer.
 fn put_sheet<B: Book>(out: &mut [u8], book: &B)
-    requires { length (bytes_of (model book.now)) ≤ length out.old }
-    ensures { out.new ≡ bytes_of (model book.now) ++ drop (length (bytes_of (model book.now))) out.old }
+    requires { length (bytes_of (B.model book.now)) ≤ length out.old }
+    ensures { out.new ≡ bytes_of (B.model book.now) ++ drop (length (bytes_of (B.model book.now))) out.old }
 {
     let at = put_header(out, 0, book);
     let at = put_rows(out, at, book);
@@ -173,8 +173,8 @@ fn put_sheet<B: Book>(out: &mut [u8], book: &B)
 
 // Writes the sheet of the book at the front of the buffer, and answers its length. The sheet opens and means the book.
 pub fn write_book<B: Book>(book: &B, out: &mut [u8]) -> Result<usize, TooShort>
-    ensures writes { Writes (model book.now) out.old result out.new }
-    ensures means { Means (bytes_of (model book.now)) (model book.now) }
+    ensures writes { Writes (B.model book.now) out.old result out.new }
+    ensures means { Means (bytes_of (B.model book.now)) (B.model book.now) }
     ensures again { Again }
 {
     let needed = sheet_length(book);
@@ -203,7 +203,7 @@ mod tests {
         let mut out = [9; 33];
         assert_eq!(rt; write_book(&sheet, &mut out), Ok(31));
         assert_eq!(rt; &out[0..31], &ONE[0..31]);
-        assert_eq!(rt; &out[31..33], &[9, 9]);
+        assert_eq!(rt; &out[31..33], [9, 9].as_slice());
     }
 
     #[test]

@@ -7,8 +7,8 @@ use Rattle.book_writer.proofs.writer.put_all_lists.Goals as goal
 pub loop-a-init : goal.loop-a-init
 loop-a-init g c = wrote_none c.args.out.now c.args.at
 
-pub put-lists-place-requires : goal.put-lists-place-requires
-put-lists-place-requires g c =
+pub put_lists-place-requires : goal.put_lists-place-requires
+put_lists-place-requires g c =
     let m = g.B.Book.model c.args.book.now in
     let more = length_lists_more m c.loop-a.a in
     let up = all_lists_up m (c.loop-a.a + 1) m.steps (omega arith) in
@@ -18,4 +18,4 @@ put-lists-place-requires g c =
 pub loop-a-preserved : goal.loop-a-preserved
 loop-a-preserved g c =
     let h : c.args.at ≤ length c.args.out.now = omega arith in
-    lists_put (g.B.Book.model c.args.book.now) c.loop-a.a h c.loop-a.invariant c.put-lists-place.ensures
+    lists_put (g.B.Book.model c.args.book.now) c.loop-a.a h c.loop-a.invariant c.put_lists-place.ensures

@@ -7,21 +7,21 @@ use Rattle.book_sheets.specs.Content.{step_in}
 use Rattle.book_writer.proofs.Lengths.{length_lists}
 use Rattle.book_writer.proofs.writer.put_lists.Goals as goal
 
-pub put-related-at-requires : goal.put-related-at-requires
-put-related-at-requires g c =
+pub put_related-at-requires : goal.put_related-at-requires
+put_related-at-requires g c =
     let s = step_in (g.B.Book.model c.args.book.now) c.args.a in
     let e = length_lists s in
     omega arith
 
-pub put-related-at-requires-2 : goal.put-related-at-requires-2
-put-related-at-requires-2 g c =
+pub put_related-at-requires-2 : goal.put_related-at-requires-2
+put_related-at-requires-2 g c =
     let s = step_in (g.B.Book.model c.args.book.now) c.args.a in
     let e = length_lists s in
     let n = length_twos s.needs in
     omega arith
 
-pub put-related-requires : goal.put-related-requires
-put-related-requires g c =
+pub put_related-requires : goal.put_related-requires
+put_related-requires g c =
     let s = step_in (g.B.Book.model c.args.book.now) c.args.a in
     let e = length_lists s in
     let n = length_twos s.needs in
@@ -33,4 +33,4 @@ returns g c =
     let s = step_in (g.B.Book.model c.args.book.now) c.args.a in
     let h : c.args.at ≤ length c.args.out.now = omega arith in
     wrote_as (append_assoc (twos s.needs) (twos s.adds) (twos s.deletes))
-    (wrote_on h (wrote_on h c.put-related-at.ensures c.put-related-at-2.ensures) c.put-related.ensures)
+    (wrote_on h (wrote_on h c.put_related-at.ensures c.put_related-at-2.ensures) c.put_related.ensures)

@@ -3,15 +3,15 @@ use Rattle.sheets.proofs.Buffers.{wrote_none, wrote_to}
 use Rattle.book_writer.specs.Parts.{related}
 use Rattle.book_sheets.proofs.Listing.{member_room, member_put, member_passed}
 use Rattle.book_writer.proofs.writer.put_related.Goals as goal
-use Rattle.book_writer.proofs.writer.put_related.Goals.{then-is-related, else-is-related}
+use Rattle.book_writer.proofs.writer.put_related.Goals.{then-is_related, else-is_related}
 
 pub loop-p-init : goal.loop-p-init
 loop-p-init g c = wrote_none c.args.out.now c.args.at
 
-pub put-u16-place-requires : goal.put-u16-place-requires
-put-u16-place-requires g c =
+pub put_u16-place-requires : goal.put_u16-place-requires
+put_u16-place-requires g c =
     let m = g.B.Book.model c.args.book.now in
-    let r = member_room (related m c.args.relation c.args.a) m.facts c.loop-p.p (omega arith) (sym c.if-is-related.ensures) in
+    let r = member_room (related m c.args.relation c.args.a) m.facts c.loop-p.p (omega arith) (sym c.if-is_related.ensures) in
     let w = c.loop-p.invariant.place in
     omega arith
 
@@ -19,9 +19,9 @@ pub loop-p-preserved : goal.loop-p-preserved
 loop-p-preserved g c =
     let P = related (g.B.Book.model c.args.book.now) c.args.relation c.args.a in
     let h : c.args.at ≤ length c.args.out.now = omega arith in
-    elim c.if-is-related.branch [
-      | then-is-related w ↦
-          wrote_to w.out-is w.place-is (member_put P c.loop-p.p h (sym c.is-related.ensures ∙ w.if-is-related.true) c.loop-p.invariant w.put-u16-place.ensures)
-      | else-is-related w ↦
-          wrote_to w.out-is w.place-is (member_passed P c.loop-p.p (sym c.is-related.ensures ∙ w.if-is-related.false) c.loop-p.invariant)
+    elim c.if-is_related.branch [
+      | then-is_related w ↦
+          wrote_to w.out-is w.place-is (member_put P c.loop-p.p h (sym c.is_related.ensures ∙ w.if-is_related.true) c.loop-p.invariant w.put_u16-place.ensures)
+      | else-is_related w ↦
+          wrote_to w.out-is w.place-is (member_passed P c.loop-p.p (sym c.is_related.ensures ∙ w.if-is_related.false) c.loop-p.invariant)
     ]

@@ -8,20 +8,20 @@ use Rattle.book_writer.proofs.writer.put_rows.Goals as goal
 pub loop-a-init : goal.loop-a-init
 loop-a-init g c = (wrote_none c.args.out.now c.args.at, omega arith)
 
-pub overflow-cast-lists : goal.overflow-cast-lists
-overflow-cast-lists g c =
+pub overflow_cast-lists : goal.overflow_cast-lists
+overflow_cast-lists g c =
     let k = lists_fit (g.B.Book.model c.args.book.now) (g.B.Book.lawful c.args.book.now) c.loop-a.a (omega arith) in
     let e = c.loop-a.invariant.1 in
     omega arith
 
-pub put-row-place-requires : goal.put-row-place-requires
-put-row-place-requires g c =
+pub put_row-place-requires : goal.put_row-place-requires
+put_row-place-requires g c =
     let k = row_room (g.B.Book.model c.args.book.now) (12 + 11 * c.steps-steps.result) c.loop-a.a in
     let w = c.loop-a.invariant.0.place in
     omega arith
 
-pub overflow-add-lists-in-loop-a : goal.overflow-add-lists-in-loop-a
-overflow-add-lists-in-loop-a g c =
+pub overflow_add-lists-in-loop-a : goal.overflow_add-lists-in-loop-a
+overflow_add-lists-in-loop-a g c =
     let k = lists_fit (g.B.Book.model c.args.book.now) (g.B.Book.lawful c.args.book.now) c.loop-a.a (omega arith) in
     let e = c.loop-a.invariant.1 in
     omega arith
@@ -33,6 +33,6 @@ loop-a-preserved g c =
     let e = c.loop-a.invariant.1 in
     let more = length_lists_more m c.loop-a.a in
     let l = length_lists (step_in m c.loop-a.a) in (
-      row_put m (12 + 11 * c.steps-steps.result) c.loop-a.a c.loop-a.lists c.seconds.result c.of-sizes.result h e c.seconds.ensures c.of-sizes.ensures c.loop-a.invariant.0 c.put-row-place.ensures,
+      row_put m (12 + 11 * c.steps-steps.result) c.loop-a.a c.loop-a.lists c.seconds.result c.of-sizes.result h e c.seconds.ensures c.of-sizes.ensures c.loop-a.invariant.0 c.put_row-place.ensures,
       omega arith,
     )
