@@ -1,4 +1,6 @@
 // The rack: loggers, a shelf and baths, as a step book by formula.
+#![tactic(auto)]
+
 pub mod rack;
 pub mod rack_fault;
 pub mod rack_names;

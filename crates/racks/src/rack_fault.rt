@@ -1,5 +1,5 @@
 ghost use Rattle.std.specs.Prelude.{◌≡◌};
-ghost use Rattle.racks.specs.RackFault.{refusal_of};
+ghost use Rattle.racks.specs.RackFault.{Numbering, refusal_of};
 
 // Why there is no rack.
 #[derive(Clone, Copy, PartialEq, Eq, Debug)]
@@ -17,4 +17,11 @@ impl RackFault {
             RackFault::NoSuchRack => 20,
         }
     }
+}
+
+// The fault stands on the list of refusals.
+pub fn the_fault_is_listed() -> u8
+    ensures { Numbering }
+{
+    0
 }

@@ -4,7 +4,7 @@ use Rattle.racks.proofs.rack.Rack.fact.Goals as goal
 
 pub returns-then-p-pairs : goal.returns-then-p-pairs
 returns-then-p-pairs c =
-    let s = c.fact-of-number in
+    let s = c.fact_of_number in
     let h = fact_here c.args.self.now.loggers c.args.self.now.baths c.args.p s.result s.ensures.on s.ensures.number in
     record { at = sym h.back; numbered = h }
 

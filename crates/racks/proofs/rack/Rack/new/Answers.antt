@@ -4,14 +4,21 @@ use Rattle.racks.proofs.RackLawful.{rack_lawful}
 use Rattle.racks.proofs.RackLaws.{rack_rules}
 use Rattle.racks.proofs.rack.Rack.new.Goals as goal
 
-pub invariant-of-result : goal.invariant-of-result
-invariant-of-result c =
-    let h = sizes c.args.loggers c.args.baths (sym c.is-rack.ensures ∙ c.if-not-is-rack.false) in
-    (h.logger, (h.bath, (h.pairs, (h.loggers, (h.baths, (∣ rack_lawful c.args.loggers c.args.baths h.bath h.pairs h.loggers h.baths ∣₁, tt))))))
+pub invariant_of-result : goal.invariant_of-result
+invariant_of-result c =
+    let h = sizes c.args.loggers c.args.baths (sym c.is_rack.ensures ∙ c.if-not-is_rack.false) in
+    record {
+      some_logger = h.logger;
+      some_bath = h.bath;
+      few_pairs = h.pairs;
+      few_loggers = h.loggers;
+      few_baths = h.baths;
+      lawful = ∣ rack_lawful c.args.loggers c.args.baths h.bath h.pairs h.loggers h.baths ∣₁;
+    }
 
 pub returns : goal.returns
 returns c =
     record {
-      which = (sym c.is-rack.ensures ∙ c.if-not-is-rack.false, refl, refl);
+      which = (sym c.is_rack.ensures ∙ c.if-not-is_rack.false, refl, refl);
       rules = rack_rules c.args.loggers c.args.baths;
     }

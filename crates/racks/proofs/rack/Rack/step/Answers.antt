@@ -4,7 +4,7 @@ use Rattle.racks.proofs.rack.Rack.step.Goals as goal
 
 pub returns-then-a-pairs : goal.returns-then-a-pairs
 returns-then-a-pairs c =
-    let s = c.step-of-number in
+    let s = c.step_of_number in
     let h = step_here c.args.self.now.loggers c.args.self.now.baths c.args.a s.result s.ensures.on s.ensures.number in
     record { at = sym h.back; numbered = h }
 
