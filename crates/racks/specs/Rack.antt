@@ -1,5 +1,5 @@
 -- The book of a rack: loggers, the shelf, and the baths that loggers are put in.
-use Rattle.std.specs.Prelude.{◌≡◌, ℕ, ◌+◌, ◌-◌, ◌*◌, ◌/◌, ◌%◌, ◌<◌, Bool, true, false, cond, ◌&&◌, ◌||◌, List, [], ◌∷◌, Some, None, Option, nat_le, nat_lt}
+use Rattle.std.specs.Prelude.{◌≡◌, ℕ, ◌+◌, ◌-◌, ◌*◌, ◌/◌, ◌%◌, ◌<◌, Bool, true, false, cond, ◌&&◌, List, [], ◌∷◌, Some, None, Option, nat_le, nat_lt}
 use Rattle.racks.specs.declared.rack_names.RackFact.{RackFact}
 use Rattle.racks.specs.declared.rack_names.RackFact.TheVariants.{InBath, OnShelf, Settled, ReadIn}
 use Rattle.racks.specs.declared.rack_names.RackStep.{RackStep}
