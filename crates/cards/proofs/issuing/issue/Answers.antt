@@ -11,21 +11,21 @@ pub returns : goal.returns
 returns g c =
     let m = g.B.Book.model c.args.book.now in
     let t = task_of c.args.task.now in
-    let e = c.in-ok-arrange.ensures in
+    let e = c.in_ok-arrange.ensures in
     let h = subst (λ (a : Arrangement). Arranges m t a) (sym c.waiting.ensures.plan) e.arrangement in
     let span = g.D.Board.limit c.args.board.now in
     let room : m.facts ≤ span = omega (arith, c.if-span-facts.false, c.span.ensures, c.facts.ensures) in
     record {
-      span = c.set-start.ensures.span;
+      span = c.set_start.ensures.span;
       answered = (
-        c.if-some-in-hand.ensures,
+        c.if-some_in_hand.ensures,
         record {
           accepted = e.answer;
           room = room;
           places = h.arranged;
           exact = h.exact;
           waiting = c.waiting.ensures.states;
-          start = λ q. c.set-start.ensures.holds q ∙ start_held t (sheet_lawful c.args.task.now) span q (omega (arith, e.answer.0.facts, room));
+          start = λ q. c.set_start.ensures.holds q ∙ start_held t (sheet_lawful c.args.task.now) span q (omega (arith, e.answer.0.facts, room));
         },
         h.numbered,
       );

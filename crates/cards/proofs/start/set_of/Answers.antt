@@ -6,7 +6,7 @@ use Rattle.books.specs.Listed.{listed}
 use Rattle.task_sheets.specs.Parts.{numbers_of}
 use Rattle.checks.proofs.TaskLists.{set_more}
 use Rattle.cards.proofs.start.set_of.Goals as goal
-use Rattle.cards.proofs.start.set_of.Goals.{in-Some, in-default}
+use Rattle.cards.proofs.start.set_of.Goals.{in-Some, in_default}
 
 pub loop-j-preserved : goal.loop-j-preserved
 loop-j-preserved c q =
@@ -14,8 +14,8 @@ loop-j-preserved c q =
       | in-Some w ↦
           (let h = w.in-Some.ensures in
           set_more (numbers_of c.args.numbers.now) 1024 c.loop-j.j q w.in-Some.p _ _ w.insert.result h.0 h.1 w.insert.ensures.answer
-          (ap (λ (s : NumberSet 16). holds s.words q) w.set-is ∙ w.insert.ensures.after q) (c.loop-j.invariant q))
-      | in-default w ↦ absurd (omega (arith, w.in-default.ensures))
+          (ap (λ (s : NumberSet 16). holds s.words q) w.set_is ∙ w.insert.ensures.after q) (c.loop-j.invariant q))
+      | in_default w ↦ absurd (omega (arith, w.in_default.ensures))
     ]
 
 pub returns : goal.returns
