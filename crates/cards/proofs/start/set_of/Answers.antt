@@ -14,7 +14,7 @@ loop-j-preserved c q =
       | in-Some w ↦
           (let h = w.in-Some.ensures in
           set_more (numbers_of c.args.numbers.now) 1024 c.loop-j.j q w.in-Some.p _ _ w.insert.result h.0 h.1 w.insert.ensures.answer
-          (ap (λ (s : NumberSet 16). holds s.words q) w.set_is ∙ w.insert.ensures.after q) (c.loop-j.invariant q))
+          (ap (λ (s : NumberSet 16). holds s.words q) w.set-is ∙ w.insert.ensures.after q) (c.loop-j.invariant q))
       | in_default w ↦ absurd (omega (arith, w.in_default.ensures))
     ]
 
