@@ -1,5 +1,5 @@
 -- How the greatest value grows with one more, and that there is only one, from the laws of a measure.
-use Rattle.std.proofs.Common.{◌≡◌, ℕ, ◌+◌, ◌<◌, ◌≤◌, Bool, true, false, cond, ◌⊎◌, sym, refl, ap, ◌∙◌, subst, inl, inr, ⊎_elim, arith, below_more}
+use Rattle.std.proofs.Common.{◌≡◌, ℕ, ◌+◌, ◌<◌, ◌≤◌, Bool, true, false, cond, sym, refl, ap, ◌∙◌, subst, inl, inr, ⊎_elim, arith, below_more}
 use Rattle.std.proofs.lemmas.Bool.{both_ways, cond_both}
 use Rattle.timetables.specs.Scale.{Scale, Laws}
 use Rattle.timetables.specs.Timetable.{greater_of, Greatest}

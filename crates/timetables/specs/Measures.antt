@@ -1,5 +1,5 @@
 -- The step count and the seconds: what each measure means.
-use Rattle.std.specs.Prelude.{ℕ, ◌+◌, ◌-◌, ◌^◌, min, nat_le}
+use Rattle.std.specs.Prelude.{◌+◌, ◌-◌, ◌^◌, min, nat_le}
 use Rattle.timetables.specs.Scale.{Scale}
 use Rattle.timetables.specs.declared.step_count.StepCount.{StepCount}
 use Rattle.timetables.specs.declared.seconds.Seconds.{Seconds}

@@ -9,7 +9,7 @@ use sheets::TooShort;
 
 // The greater of two values.
 fn greater<M: Measure + Copy>(a: M, b: M) -> M
-    ensures { result ≡ greater_of scale a b }
+    ensures { result ≡ greater_of M.scale a b }
 {
     if a.at_most(&b) { b } else { a }
 }
@@ -18,7 +18,7 @@ fn greater<M: Measure + Copy>(a: M, b: M) -> M
 fn sum_at<M: Measure + Copy>(weights: &[M], begins: &[M], u: usize) -> M
     requires weighed { u < length weights.now }
     requires begun { u < length begins.now }
-    ensures { result ≡ sum scale (by_place scale weights.now) (by_place scale begins.now) u }
+    ensures { result ≡ sum M.scale (by_place M.scale weights.now) (by_place M.scale begins.now) u }
 {
     begins[u].plus(weights[u])
 }
@@ -34,7 +34,7 @@ fn begin_after<M: Measure + Copy>(
 ) -> M
     requires weighed { u < length weights.now }
     requires begun { u < length begins.now }
-    ensures { result ≡ (if precedes_of card.now u v then greater_of scale begin (sum scale (by_place scale weights.now) (by_place scale begins.now) u) else begin) }
+    ensures { result ≡ (if precedes_of card.now u v then greater_of M.scale begin (sum M.scale (by_place M.scale weights.now) (by_place M.scale begins.now) u) else begin) }
 {
     if card.precedes(u, v) {
         greater(begin, sum_at(weights, begins, u))
@@ -47,7 +47,7 @@ fn begin_after<M: Measure + Copy>(
 fn begin_of<M: Measure + Copy>(card: &Card, weights: &[M], begins: &[M], v: usize) -> M
     requires weighed { v ≤ length weights.now }
     requires begun { v ≤ length begins.now }
-    ensures { Greatest scale (λ u. precedes_of card.now u v) (sum scale (by_place scale weights.now) (by_place scale begins.now)) v result }
+    ensures { Greatest M.scale (λ u. precedes_of card.now u v) (sum M.scale (by_place M.scale weights.now) (by_place M.scale begins.now)) v result }
 {
     let mut begin = M::zero();
     for u in 0..v {
@@ -60,7 +60,7 @@ fn begin_of<M: Measure + Copy>(card: &Card, weights: &[M], begins: &[M], v: usiz
 fn fill<M: Measure + Copy>(card: &Card, weights: &[M], begins: &mut [M]) -> M
     requires weighed { size_of card.now ≤ length weights.now }
     requires room { size_of card.now ≤ length begins.old }
-    ensures { Written scale (size_of card.now) (precedes_of card.now) weights.now begins.old begins.new result }
+    ensures { Written M.scale (size_of card.now) (precedes_of card.now) weights.now begins.old begins.new result }
 {
     let mut end = M::zero();
     for v in 0..card.count() {
@@ -76,7 +76,7 @@ pub fn timetable<M: Measure + Copy>(
     weights: &[M],
     begins: &mut [M],
 ) -> Result<M, TooShort>
-    ensures { Timetabled scale (size_of card.now) (precedes_of card.now) weights.now begins.old begins.new result }
+    ensures { Timetabled M.scale (size_of card.now) (precedes_of card.now) weights.now begins.old begins.new result }
 {
     let count = card.count();
     if weights.len() < count || begins.len() < count {
@@ -87,7 +87,7 @@ pub fn timetable<M: Measure + Copy>(
 
 // In every measure, places and their weights have one timetable.
 pub fn only_one_timetable<M: Measure>() -> u8
-    ensures { OnlyOne scale }
+    ensures { OnlyOne M.scale }
 {
     0
 }
