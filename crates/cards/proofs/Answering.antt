@@ -1,11 +1,9 @@
 -- Every moment and call has exactly one answer and exactly one moment after it.
-use Rattle.std.proofs.Common.{◌≡◌, ℕ, ◌<◌, ◌≤◌, Bool, true, false, cond, not, ◌&&◌, ◌||◌, ◌⊎◌, ◌↔◌, Ok, Err, Result, sym, refl, ap, ◌∙◌, subst, inl, inr, arith}
-use mathlib.Core.Path.{fun_ext}
+use Rattle.std.proofs.Common.{◌≡◌, ℕ, ◌<◌, ◌≤◌, Bool, true, false, not, ◌||◌, ◌⊎◌, Ok, Err, Result, sym, refl, ap, ◌∙◌, subst, inl, inr, arith}
 use Rattle.std.proofs.lemmas.Bool.{both_ways, cases_lt, cases_order}
-use Rattle.books.specs.Book.{Facts}
 use Rattle.plans.proofs.Runs.{first}
 use Rattle.cards.specs.Moments.{Setting, Moment, done, turned, Cleared, Lowest}
-use Rattle.cards.specs.Answers.{asks, leaves, Unmoved, Granted, board_after, Moved, Answered, SomeAnswer, OneAnswer, GrantedByRule}
+use Rattle.cards.specs.Answers.{asks, leaves, Unmoved, Granted, board_after, Answered, SomeAnswer, OneAnswer, GrantedByRule}
 use Rattle.cards.specs.declared.state.State.{State}
 use Rattle.cards.specs.declared.state.State.TheVariants.{Waiting, InHand, Finished}
 use Rattle.cards.specs.declared.state.Event.{Event}

@@ -1,10 +1,10 @@
 -- However the places of an issued card are begun, finished and put back, what a run keeps stays kept.
-use Rattle.std.proofs.Common.{◌≡◌, ℕ, zero, suc, ◌<◌, ◌≤◌, Bool, true, false, cond, not, ◌&&◌, ◌||◌, eqb, ltb, ◌⊎◌, List, [], ◌∷◌, Ok, Err, Result, sym, refl, ap, ◌∙◌, subst, inl, inr, arith}
+use Rattle.std.proofs.Common.{◌≡◌, ℕ, zero, suc, ◌<◌, Bool, true, false, cond, not, ◌&&◌, ◌||◌, eqb, ltb, ◌⊎◌, List, [], ◌∷◌, Ok, Err, Result, sym, refl, ap, ◌∙◌, subst, inl, inr, arith}
 use mathlib.Core.Path.{fun_ext}
-use Rattle.std.proofs.lemmas.Bool.{both_ways, cases_eq, cases_lt, eqb-true, eq-eqb, ne_eqb, or_cases, or_right, lt-ltb, le-ltb}
+use Rattle.std.proofs.lemmas.Bool.{both_ways, cases_eq, cases_lt, eqb-true, eq-eqb, ne_eqb, or_cases, or_right, lt-ltb}
 use Rattle.books.specs.Book.{Model, Facts, Lawful, after}
 use Rattle.books.specs.Listed.{listed}
-use Rattle.plans.specs.Places.{Places, Precedes, InOrder, Closed, Ready, left, left_below, all, Lays}
+use Rattle.plans.specs.Places.{Places, Precedes, InOrder, Closed, Ready, left, left_below, all}
 use Rattle.plans.specs.Laws.{with, Fed}
 use Rattle.plans.proofs.Runs.{same, needing, commuting, progress, apart}
 use Rattle.plans.proofs.Layers.{ending, feeding}
@@ -12,7 +12,7 @@ use Rattle.plans.proofs.Arranging.{ascent, laying}
 use Rattle.task_sheets.specs.Content.{Task}
 use Rattle.cards.specs.States.{finished}
 use Rattle.cards.specs.Moments.{Setting, Moment, done, turned, worked}
-use Rattle.cards.specs.Answers.{asks, leaves, Granted, board_after, Answered}
+use Rattle.cards.specs.Answers.{Granted, Answered}
 use Rattle.cards.specs.Runs.{Issued, Remains, GoesOn, Kept, Made, Trail, Throughout, ByRule, RunLaw}
 use Rattle.cards.specs.declared.state.State.{State}
 use Rattle.cards.specs.declared.state.State.TheVariants.{Waiting, InHand, Finished}
@@ -140,7 +140,7 @@ module _ (s : Setting) (law : Lawful s.book) (t : Task) (b₀ : Moment) (issued 
   pub onward : (b : Moment) (e : Event) (p : ℕ) (r : Result (Unit {0}) RunFault) (a : Moment) → Answered s b e p r a → Fine b → Fine a
   onward b e p r a w f = subst Fine (sym (next_is s b e p r a w)) (by_next b e p r a w f)
 
-  started : Fine b₀
+  pub started : Fine b₀
   started = at_start s.book s.places up (listed t.start) b₀ issued.waiting issued.start
 
   fed : Fed s.book s.places (listed t.start)

@@ -1,13 +1,12 @@
 -- Trails: one for each list of calls, and one call more at the end.
 use Rattle.std.proofs.Common.{◌≡◌, ℕ, List, [], ◌∷◌, ◌++◌, map, sym, refl, ap, ◌∙◌, subst, arith}
-use Rattle.books.specs.Book.{Model, Facts}
+use Rattle.books.specs.Book.{Model}
 use Rattle.checks.specs.Rows.{marked}
 use Rattle.checks.specs.Tables.{places_in}
-use Rattle.checks.specs.declared.arrangement.Arrangement.{Arrangement}
 use Rattle.cards.specs.Moments.{Setting, Moment}
 use Rattle.cards.specs.Answers.{Answered}
 use Rattle.cards.specs.Cards.{setting_of}
-use Rattle.cards.specs.Runs.{Made, Trail, after_all, OneTrail, EachRun}
+use Rattle.cards.specs.Runs.{Made, Trail, after_all, EachRun}
 use Rattle.cards.specs.declared.card.Card.{Card}
 use Rattle.cards.specs.declared.state.Attempt.{Attempt}
 use Rattle.cards.proofs.Answering.{some_answer, one_answer}

@@ -1,5 +1,5 @@
 -- What is answered to a begin, a finish or a put back at a place, and the moment after it.
-use Rattle.std.specs.Prelude.{◌≡◌, ℕ, ◌<◌, ◌≤◌, true, ◌↔◌, Ok, Err, Result, ◌≢◌}
+use Rattle.std.specs.Prelude.{◌≡◌, ℕ, ◌<◌, ◌≤◌, ◌↔◌, Ok, Err, Result, ◌≢◌}
 use Rattle.books.specs.Book.{Facts}
 use Rattle.cards.specs.Moments.{Setting, Moment, done, turned, Cleared, Lowest, worked}
 use Rattle.cards.specs.declared.state.State.{State}

@@ -3,13 +3,15 @@ use Rattle.std.specs.Prelude.{◌≡◌, ℕ, ◌<◌, ◌≤◌, Bool, true, fa
 use Rattle.books.specs.Book.{Model, Facts}
 use Rattle.checks.specs.Rows.{marked}
 use Rattle.checks.specs.Tables.{blank, places_in}
-use Rattle.checks.specs.declared.arrangement.Arrangement.{Arrangement}
 use Rattle.checks.specs.declared.arrangement.Place.{Place}
 use Rattle.cards.specs.States.{finished, held}
 use Rattle.cards.specs.Moments.{Setting, Moment}
+use Rattle.cards.specs.Replies.{Replied}
 use Rattle.cards.specs.declared.card.Card.{Card}
 use Rattle.cards.specs.declared.state.State.{State}
 use Rattle.cards.specs.declared.state.State.TheVariants.{Waiting}
+use Rattle.cards.specs.declared.request.Request.{Request}
+use Rattle.cards.specs.declared.request.Reply.{Reply}
 use Rattle.cards.specs.declared.fault.RunFault.{RunFault}
 use Rattle.cards.specs.declared.fault.RunFault.TheVariants.{Plan, InHand, SpanTooSmall, NoPlace, WrongState, Unfinished, TooShort}
 
@@ -47,6 +49,10 @@ setting_of m span c = record { book = m; span = span; places = places_in c.plan.
 -- the moment of a card beside a board that holds these facts
 abbrev pub moment_of : Card → Facts → Moment
 moment_of c board = record { state = state_of c; board = board }
+
+-- the reply to a request on the card c, beside a book and a board of that span; c' and board' stand after it
+abbrev pub RequestReplied : Model → ℕ → Card → Facts → Request → Reply → Card → Facts → Type 0
+RequestReplied m span c board q r c' board' = Replied (setting_of m span c) (moment_of c board) q r (moment_of c' board')
 
 -- the answer of a look: the place's step, its level by number from 1, and its state; or that there is no such place
 abbrev pub Looked : Card → ℕ → Result (ℕ × ℕ × State) RunFault → Type 0

@@ -2,7 +2,12 @@ pub mod States
 pub mod Faults
 pub mod Moments
 pub mod Answers
+pub mod Replies
 pub mod Cards
 pub mod Runs
+pub mod Requests
 pub mod Issues
+pub mod Drawing
+pub mod Tiny
 pub mod FaultText
+pub mod ReplyText

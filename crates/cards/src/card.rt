@@ -27,7 +27,7 @@ impl Card {
     }
 
     // A card on which every place of the plan waits.
-    pub(crate) fn waiting(plan: Arrangement) -> Card
+    pub fn waiting(plan: Arrangement) -> Card
         ensures plan { result.plan ≡ plan }
         ensures states { (u : ℕ) → slice_index_or result.states u Waiting ≡ Waiting }
     {

@@ -1,6 +1,6 @@
 ghost use Rattle.std.specs.Prelude.{◌≡◌};
-ghost use Rattle.cards.specs.Faults.{run_number};
-ghost use Rattle.cards.specs.declared.fault.RunFault.TheVariants.{Plan};
+ghost use Rattle.cards.specs.Faults.{run_number, Numbering};
+ghost use Rattle.cards.specs.declared.fault.RunFault.TheVariants.{Plan, TooShort as of_too_short};
 
 use checks::PlanFault;
 use sheets::TooShort;
@@ -41,11 +41,27 @@ impl RunFault {
     }
 }
 
+// Every fault tells its number, and stands on the list of refusals.
+pub fn every_fault_is_listed() -> u8
+    ensures { Numbering }
+{
+    0
+}
+
 // A plan's fault is a run's fault, whole.
 impl From<PlanFault> for RunFault {
     ghost from_gives = { λ f r. r ≡ Plan f };
 
     fn from(fault: PlanFault) -> RunFault {
         RunFault::Plan(fault)
+    }
+}
+
+// A buffer that is too short is a run's fault, whole.
+impl From<TooShort> for RunFault {
+    ghost from_gives = { λ f r. r ≡ of_too_short f };
+
+    fn from(fault: TooShort) -> RunFault {
+        RunFault::TooShort(fault)
     }
 }

@@ -33,7 +33,7 @@ fn start_facts(task: &TaskSheet) -> FactSet
 }
 
 // The board then holds the start facts that are below its span, and no others.
-pub(crate) fn set_start<D: Board>(board: &mut D, task: &TaskSheet)
+pub fn set_start<D: Board>(board: &mut D, task: &TaskSheet)
     ensures span { D.Board.limit board.new ≡ D.Board.limit board.old }
     ensures holds { (q : ℕ) → D.Board.set board.new q ≡ (listed (task_of task.now).start q && nat_lt q (D.Board.limit board.old)) }
 {

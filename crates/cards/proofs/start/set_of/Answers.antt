@@ -1,4 +1,4 @@
-use Rattle.std.proofs.Common.{◌≡◌, ◌&&◌, ltb, take, ap, ◌∙◌, arith}
+use Rattle.std.proofs.Common.{◌&&◌, ltb, ap, ◌∙◌, arith}
 use Rattle.std.proofs.lemmas.List.{take_all}
 use Rattle.facts.specs.declared.NumberSet.{NumberSet}
 use Rattle.facts.specs.Sets.{holds}

@@ -1,4 +1,4 @@
-use Rattle.std.proofs.Common.{◌≡◌, ◌&&◌, ltb, ap, ◌∙◌}
+use Rattle.std.proofs.Common.{◌&&◌, ltb, ap, ◌∙◌}
 use Rattle.books.specs.Listed.{listed}
 use Rattle.task_sheets.specs.declared.item.Part.TheVariants.{Start}
 use Rattle.task_sheets.specs.Opened.{task_of}
