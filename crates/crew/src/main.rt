@@ -1,4 +1,6 @@
 // A crew of two at the rack of 2 loggers and 1 bath: both loggers are put in side by side, and then the bath settles.
+#![tactic(auto)]
+
 use anyhow::anyhow;
 use boards::{BitBoard, Board};
 use books::Book;
