@@ -1,4 +1,6 @@
 // One calibration of a logger, carried out on a fact board step by step.
+#![tactic(auto)]
+
 ghost use Rattle.std.specs.Prelude.{◌≡◌, ℕ, true, false, ◌&&◌, ◌||◌, MatchBool, nat_lt};
 ghost use Rattle.books.specs.Book.{after};
 ghost use Rattle.calibrate.specs.Shelf.{shelved};

@@ -1,4 +1,4 @@
-use Rattle.std.proofs.Common.{sym, refl, ◌∙◌}
+use Rattle.std.proofs.Common.{sym, ◌∙◌}
 use Rattle.racks.proofs.Racks.{sizes}
 use Rattle.racks.proofs.RackLawful.{rack_lawful}
 use Rattle.racks.proofs.RackLaws.{rack_rules}
@@ -16,9 +16,5 @@ invariant_of-result c =
       lawful = ∣ rack_lawful c.args.loggers c.args.baths h.bath h.pairs h.loggers h.baths ∣₁;
     }
 
-pub returns : goal.returns
-returns c =
-    record {
-      which = (sym c.is_rack.ensures ∙ c.if-not-is_rack.false, refl, refl);
-      rules = rack_rules c.args.loggers c.args.baths;
-    }
+pub returns-clause-rules : goal.returns-clause-rules
+returns-clause-rules c = rack_rules c.args.loggers c.args.baths
