@@ -1,6 +1,6 @@
 use Rattle.std.proofs.Common.{arith}
 use Rattle.std.proofs.lemmas.Result.{err_from_is_err_and}
-use Rattle.sheets.proofs.Verdicts.{up_to_more, up_to_stops}
+use Rattle.sheets.proofs.Verdicts.{up_to_stops}
 use Rattle.book_sheets.specs.Layout.{deleted}
 use Rattle.book_sheets.proofs.checks.check_deletes.Goals as goal
 
@@ -8,8 +8,3 @@ pub returns-in_err-check_deleted : goal.returns-in_err-check_deleted
 returns-in_err-check_deleted c =
     let p = err_from_is_err_and c.from_residual.result c.from_residual.ensures.1 in
     rw (p.1, p.2) (up_to_stops (deleted c.args.bytes.now c.args.facts c.args.adds_at c.args.adds c.args.at) c.loop-j.j c.args.n _ (omega arith) c.loop-j.invariant.0 c.in_err-check_deleted.ensures)
-
-pub loop-j-preserved : goal.loop-j-preserved
-loop-j-preserved c =
-    let h = c.in_ok-check_deleted.ensures in
-    (up_to_more (deleted c.args.bytes.now c.args.facts c.args.adds_at c.args.adds c.args.at) c.loop-j.j c.loop-j.invariant.0 h.0, omega arith)

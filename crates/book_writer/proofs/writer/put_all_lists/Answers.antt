@@ -1,11 +1,7 @@
 use Rattle.std.proofs.Common.{◌+◌, ◌≤◌, length, arith}
-use Rattle.sheets.proofs.Buffers.{wrote_none}
 use Rattle.book_writer.proofs.Lengths.{length_lists_more, all_lists_up}
 use Rattle.book_writer.proofs.Parts.{lists_put}
 use Rattle.book_writer.proofs.writer.put_all_lists.Goals as goal
-
-pub loop-a-init : goal.loop-a-init
-loop-a-init g c = wrote_none c.args.out.now c.args.at
 
 pub put_lists-place-requires : goal.put_lists-place-requires
 put_lists-place-requires g c =

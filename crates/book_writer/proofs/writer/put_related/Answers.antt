@@ -1,12 +1,9 @@
 use Rattle.std.proofs.Common.{◌≤◌, length, sym, ◌∙◌, arith}
-use Rattle.sheets.proofs.Buffers.{wrote_none, wrote_to}
+use Rattle.sheets.proofs.Buffers.{wrote_to}
 use Rattle.book_writer.specs.Parts.{related}
 use Rattle.book_sheets.proofs.Listing.{member_room, member_put, member_passed}
 use Rattle.book_writer.proofs.writer.put_related.Goals as goal
 use Rattle.book_writer.proofs.writer.put_related.Goals.{then-is_related, else-is_related}
-
-pub loop-p-init : goal.loop-p-init
-loop-p-init g c = wrote_none c.args.out.now c.args.at
 
 pub put_u16-place-requires : goal.put_u16-place-requires
 put_u16-place-requires g c =

@@ -1,12 +1,8 @@
 use Rattle.std.proofs.Common.{◌+◌, ◌*◌, ◌≤◌, length, arith}
-use Rattle.sheets.proofs.Buffers.{wrote_none}
 use Rattle.book_sheets.specs.Content.{step_in}
 use Rattle.book_writer.proofs.Lengths.{length_lists, length_lists_more}
 use Rattle.book_writer.proofs.Parts.{row_room, lists_fit, row_put}
 use Rattle.book_writer.proofs.writer.put_rows.Goals as goal
-
-pub loop-a-init : goal.loop-a-init
-loop-a-init g c = (wrote_none c.args.out.now c.args.at, omega arith)
 
 pub overflow_cast-lists : goal.overflow_cast-lists
 overflow_cast-lists g c =
