@@ -1,13 +1,21 @@
 -- A card that is drawn up, and the issue that follows.
-use Rattle.std.proofs.Common.{◌≡◌, ℕ, ◌≤◌, false, ◌&&◌, ltb, sym, ap, ◌∙◌, arith}
+use Rattle.std.proofs.Common.{◌≡◌, ℕ, ◌≤◌, false, ◌&&◌, ltb, Ok, sym, ap, ◌∙◌, subst, arith}
 use Rattle.std.proofs.lemmas.Bool.{le-ltb}
+use Rattle.books.specs.Book.{Model}
 use Rattle.books.specs.Listed.{listed}
 use Rattle.task_sheets.specs.Content.{Task, LawfulTask}
+use Rattle.checks.specs.Checked.{Checked}
+use Rattle.checks.specs.Arrangements.{Arranges}
+use Rattle.checks.specs.declared.arrangement.Arrangement.{Arrangement}
 use Rattle.checks.proofs.TaskLists.{listed_below}
 use Rattle.cards.specs.Moments.{Setting, Moment}
+use Rattle.cards.specs.Cards.{state_of, setting_of}
 use Rattle.cards.specs.Runs.{Issued}
+use Rattle.cards.specs.Issues.{Numbered}
 use Rattle.cards.specs.Drawing.{DrawnUp}
+use Rattle.cards.specs.declared.card.Card.{Card}
 use Rattle.cards.specs.declared.state.State.{State}
+use Rattle.cards.specs.declared.state.State.TheVariants.{Waiting}
 use Rattle.cards.proofs.Spans.{cut}
 
 -- no start fact of a lawful task is past the facts
@@ -28,3 +36,21 @@ drawn_issued s t b w f = record {
   waiting = w.waiting;
   start = λ q. f q ∙ drawn_held s t b.state w q;
 }
+
+module _ (m : Model) (span : ℕ) (t : Task) (law : LawfulTask t) (fresh : Card) (a : Arrangement) (arranges : Arranges m t a) (same : fresh.plan ≡ a) where
+  onto : Arranges m t fresh.plan
+  onto = subst (λ (x : Arrangement). Arranges m t x) (sym same) arranges
+
+  -- a card on which every place of an arranged plan waits
+  pub drawn_up : Checked m t (Ok tt) → m.facts ≤ span → ((u : ℕ) → state_of fresh u ≡ Waiting) → DrawnUp (setting_of m span fresh) t (state_of fresh)
+  drawn_up accepted room waiting = record {
+    accepted = accepted;
+    room = room;
+    known = λ q l. start_known t law q (omega (arith, accepted.0.facts));
+    places = onto.arranged;
+    exact = onto.exact;
+    waiting = waiting;
+  }
+
+  pub drawn_numbered : Numbered fresh
+  drawn_numbered = onto.numbered
