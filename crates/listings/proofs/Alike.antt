@@ -1,5 +1,5 @@
 -- What is to be shown of a plan is one thing only.
-use Rattle.std.proofs.Common.{◌≡◌, ℕ, zero, suc, ◌-◌, ◌<◌, ◌≤◌, true, ◌⊎◌, ◌++◌, sym, refl, ap, ◌∙◌, subst, inl, inr, ⊎_elim, arith, rules}
+use Rattle.std.proofs.Common.{◌≡◌, ℕ, zero, suc, ◌-◌, ◌<◌, ◌≤◌, true, ◌++◌, sym, refl, ap, ◌∙◌, subst, inl, inr, ⊎_elim, arith, rules}
 use Rattle.books.specs.Book.{Model}
 use Rattle.plans.specs.Steps.{Authorizes, Feeds}
 use Rattle.plans.specs.Places.{Places, Precedes}
@@ -78,7 +78,7 @@ module _ (m : Model) (t : Task) (s s' : Shown) (h : Shows m t s) (h' : Shows m t
       let other =
       subst (λ n. Timetable step_scale n h'.precedes (λ v. record { count = 1 }) (λ v. record { count = s'.stratum v }) (record { count = s'.strata })) same.size h'.strata in
       let one =
-      renamed step_scale s.places h.precedes h'.precedes to from (λ v. record { count = 1 }) (λ v. record { count = 1 }) (λ u k. refl)
+      renamed step_scale s.places h.precedes h'.precedes (λ u v e. (h.inside u v e).0) to from (λ v. record { count = 1 }) (λ v. record { count = 1 }) (λ u k. refl)
       (λ v. record { count = s.stratum v }) (record { count = s.strata }) h.strata in
       let both = only_one step_laws s.places h'.precedes _ _ _ _ _ one other in
       ((λ v k. ap (λ (x : StepCount). x.count) (both.0 v k)), ap (λ (x : StepCount). x.count) both.1)
@@ -89,7 +89,7 @@ module _ (m : Model) (t : Task) (s s' : Shown) (h : Shows m t s) (h' : Shows m t
       let other =
       subst (λ n. Timetable second_scale n h'.precedes (λ v. record { count = m.seconds (s'.step v) }) (λ v. record { count = s'.begin v }) (record { count = s'.seconds })) same.size h'.seconds in
       let one =
-      renamed second_scale s.places h.precedes h'.precedes to from (λ v. mk (m.seconds (s.step v))) (λ v. mk (m.seconds (s'.step v)))
+      renamed second_scale s.places h.precedes h'.precedes (λ u v e. (h.inside u v e).0) to from (λ v. mk (m.seconds (s.step v))) (λ v. mk (m.seconds (s'.step v)))
       (λ u k. ap (λ a. mk (m.seconds a)) (sym (same.step u k)))
       (λ v. mk (s.begin v)) (mk s.seconds) h.seconds in
       let both = only_one second_laws s.places h'.precedes _ _ _ _ _ one other in

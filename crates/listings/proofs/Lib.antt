@@ -1,4 +1,5 @@
 mod Times
 mod Tables
 mod Alike
+mod Sheets
 mod OneText

@@ -29,7 +29,7 @@ module _ (m : Model) (a : Arrangement) where
       → r ≡ Ok height → Stratified a.count (marked a.before) before stratum r
       → Timetable step_scale a.count (marked a.before) (λ v. record { count = 1 }) (by_place step_scale stratum) height
   layered before stratum r height e t =
-      renamed step_scale a.count (marked a.before) (marked a.before) (λ u v h. h) (λ u v h. h)
+      renamed step_scale a.count (marked a.before) (marked a.before) (λ u v h. (inside u v h).0) (λ u v h. h) (λ u v h. h)
       (by_place step_scale ones) (λ v. record { count = 1 }) one_each (by_place step_scale stratum) height
       (subst (λ q. Stratified a.count (marked a.before) before stratum q) e t).0.table
 
@@ -42,7 +42,7 @@ module _ (m : Model) (a : Arrangement) where
       → r ≡ Ok end → Timetabled second_scale a.count (marked a.before) weights before begins r
       → Timetable second_scale a.count (marked a.before) (λ v. record { count = m.seconds (get_or a.places v blank).step }) (by_place second_scale begins) end
   timed weights before begins r end w e t =
-      renamed second_scale a.count (marked a.before) (marked a.before) (λ u v h. h) (λ u v h. h)
+      renamed second_scale a.count (marked a.before) (marked a.before) (λ u v h. (inside u v h).0) (λ u v h. h) (λ u v h. h)
       (by_place second_scale weights) (λ v. record { count = m.seconds (get_or a.places v blank).step })
       (λ v h. let mk : ℕ → Seconds = λ n. record { count = n } in ap mk (w v h)) (by_place second_scale begins) end
       (subst (λ q. Timetabled second_scale a.count (marked a.before) weights before begins q) e t).table

@@ -1,19 +1,19 @@
 -- Timetables under other names of the same weights and precedences.
-use Rattle.std.proofs.Common.{◌≡◌, ℕ, ◌<◌, Bool, true, ◌⊎◌, sym, ap, ◌∙◌, subst, inl, inr, ⊎_elim}
+use Rattle.std.proofs.Common.{◌≡◌, ℕ, ◌<◌, Bool, true, sym, ap, ◌∙◌, subst, inl, inr, ⊎_elim}
 use Rattle.timetables.specs.Scale.{Scale}
 use Rattle.timetables.specs.Timetable.{Greatest, sum, Keeps, Timetable}
 
-module _ {M : Type 0} (s : Scale M) (size : ℕ) (p p' : ℕ → ℕ → Bool)
+module _ {M : Type 0} (s : Scale M) (size : ℕ) (p p' : ℕ → ℕ → Bool) (below : (u v : ℕ) → p u v ≡ true → u < size)
     (to : (u v : ℕ) → p u v ≡ true → p' u v ≡ true) (from : (u v : ℕ) → p' u v ≡ true → p u v ≡ true)
     (w w' : ℕ → M) (same : (u : ℕ) → u < size → w u ≡ w' u) where
   sums : (b : ℕ → M) (u : ℕ) → u < size → sum s w b u ≡ sum s w' b u
   sums b u h = ap (s.plus (b u)) (same u h)
 
-  keeps_to : (b : ℕ → M) → Keeps s size p w b → Keeps s size p' w' b
-  keeps_to b k u v h i e = subst (λ x. s.within x (b v) ≡ true) (sums b u h) (k u v h i (from u v e))
+  keeps_to : (b : ℕ → M) → Keeps s p w b → Keeps s p' w' b
+  keeps_to b k u v e = let f = from u v e in subst (λ x. s.within x (b v) ≡ true) (sums b u (below u v f)) (k u v f)
 
-  keeps_from : (b : ℕ → M) → Keeps s size p' w' b → Keeps s size p w b
-  keeps_from b k u v h i e = subst (λ x. s.within x (b v) ≡ true) (sym (sums b u h)) (k u v h i (to u v e))
+  keeps_from : (b : ℕ → M) → Keeps s p' w' b → Keeps s p w b
+  keeps_from b k u v e = subst (λ x. s.within x (b v) ≡ true) (sym (sums b u (below u v e))) (k u v (to u v e))
 
   greatest_to : (picked picked' : ℕ → Bool) (b : ℕ → M) (x : M)
       → ((u : ℕ) → picked u ≡ true → picked' u ≡ true) → ((u : ℕ) → picked' u ≡ true → picked u ≡ true)

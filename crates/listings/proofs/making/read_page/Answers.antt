@@ -1,7 +1,7 @@
 use Rattle.std.proofs.Common.{◌≡◌, ℕ, List, Err, sym, ap, ◌∙◌, Bor}
 use Rattle.std.proofs.lemmas.Result.{err_from_is_err_and}
 use Rattle.checks.specs.Checked.{bare}
-use Rattle.checks.proofs.Sheets.{at_fault, both_open}
+use Rattle.listings.proofs.Sheets.{at_fault, both_open}
 use Rattle.listings.proofs.making.read_page.Goals as goal
 
 pub returns-in_err-open : goal.returns-in_err-open
