@@ -1,4 +1,6 @@
 // Opens the book and the task of the folder it runs in, checks the plan, times it, and works it off on a bit board.
+#![tactic(auto)]
+
 use boards::BitBoard;
 use book_sheets::BookSheet;
 use books::Book;

@@ -1,4 +1,6 @@
 // Lists the cases of the file cases.txt, whose listings the other checker made, and prints a line -- behind each listing.
+#![tactic(auto)]
+
 use anyhow::anyhow;
 use listings::list;
 use std::alloc::Global;

@@ -1,4 +1,5 @@
 // The worked examples, run: sheets of the rack, plans accepted and refused, cards worked off, timetables.
+#![tactic(auto)]
 
 #[cfg(test)]
 mod checked;

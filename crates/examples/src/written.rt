@@ -17,7 +17,7 @@ fn the_rack_has_its_sheet(rt: HostRuntime) -> Result<(), Fail> {
     assert_eq!(rt; write_book(&rack, &mut out), Ok(131));
     let rack_sheet = *RACK;
     assert_eq!(rt; &out[0..131], &rack_sheet[0..131]);
-    assert_eq!(rt; &out[131..133], &[7, 7]);
+    assert_eq!(rt; &out[131..133], [7, 7].as_slice());
     let mut short = [7; 130];
     assert_eq!(rt;
         write_book(&rack, &mut short),

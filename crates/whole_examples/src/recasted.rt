@@ -37,7 +37,7 @@ fn two_levels_become_four(rt: HostRuntime) -> Result<(), Fail> {
     assert_eq!(rt; recast_of(&rt, TWO_LEVELS, &mut out)?, Ok(46));
     let four_levels = *FOUR_LEVELS;
     assert_eq!(rt; &out[0..46], &four_levels[0..46]);
-    assert_eq!(rt; &out[46..48], &[9, 9]);
+    assert_eq!(rt; &out[46..48], [9, 9].as_slice());
     Ok(())
 }
 
