@@ -8,8 +8,11 @@ use Rattle.books.specs.Listed.{members}
 use Rattle.books.proofs.Counts.{count_or, count_none, count_listed}
 use Rattle.books.proofs.Members.{length_members}
 use Rattle.task_sheets.specs.Content.{total}
-use Rattle.checks.proofs.Passing.{total_push}
 use Rattle.recasts.specs.Layers.{steps_at, rows_at}
+
+pub total_push : (plan : List (List ℕ)) (xs : List ℕ) → total (plan ++ xs ∷ []) ≡ total plan + length xs
+total_push [] xs = omega arith
+total_push (ys ∷ plan) xs = omega (arith, total_push plan xs)
 
 module _ (step stratum : ℕ → ℕ) where
   -- one place more

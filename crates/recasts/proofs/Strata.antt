@@ -6,7 +6,6 @@ use Rattle.std.proofs.lemmas.Bool.{both_ways, and_from, and_parts, or_cases, or_
 use Rattle.books.specs.Book.{Facts, Model, Lawful}
 use Rattle.books.specs.Listed.{listed, members}
 use Rattle.books.proofs.Members.{listed_members}
-use Rattle.sheets.specs.Lists.{Ascending}
 use Rattle.sheets.specs.declared.writing.TooShort.{TooShort}
 use Rattle.book_sheets.proofs.Ascents.{listed_says}
 use Rattle.book_sheets.proofs.Listing.{members_ascend, in_set}
@@ -105,7 +104,7 @@ module _ (m : Model) (t : Task) (law : LawfulTask t) (card : Card) (begins : Lis
       omega (arith, w.3, step_below w.0 w.1)
 
   climbs : Climbs m o stratum
-  climbs u v k h p = s.climbs u v k h ((c.exact u v k h).1 p)
+  climbs u v k h p = s.climbs u v ((c.exact u v k h).1 p)
 
   low : Low m o stratum
   low v k = elim (s.low v k) [

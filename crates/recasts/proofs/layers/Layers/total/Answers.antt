@@ -3,9 +3,8 @@ use Rattle.facts.specs.Sets.{holds}
 use Rattle.cards.specs.Cards.{size_of}
 use Rattle.books.specs.Listed.{members}
 use Rattle.task_sheets.specs.Content.{total}
-use Rattle.checks.proofs.Passing.{total_push}
 use Rattle.recasts.specs.Layers.{step_of, stratum_of, steps_of, levels_below}
-use Rattle.recasts.proofs.Rows.{rows_more, row_said, total_few}
+use Rattle.recasts.proofs.Rows.{total_push, rows_more, row_said, total_few}
 use Rattle.recasts.proofs.layers.Layers.total.Goals as goal
 
 pub loop-k-preserved : goal.loop-k-preserved
