@@ -1,5 +1,5 @@
 -- The first of some words.
-use Rattle.std.proofs.Common.{◌≡◌, ℕ, ◌-◌, ◌<◌, ◌≤◌, true, false, List, [], ◌∷◌, map, length, get_or, take, drop, is_some, Some, None, Option, String, sym, refl, ap, ◌∙◌, arith, take_all, Bor}
+use Rattle.std.proofs.Common.{◌≡◌, ℕ, ◌-◌, ◌<◌, false, List, [], ◌∷◌, map, length, get_or, take, drop, is_some, Some, None, Option, String, refl, arith, take_all, Bor}
 use Rattle.std.specs.declared.alloc.Global.{Global}
 use Rattle.commands.specs.Words.{FirstOf}
 
