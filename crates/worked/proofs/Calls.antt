@@ -11,6 +11,7 @@ use Rattle.cards.specs.States.{finished}
 use Rattle.cards.specs.Moments.{Moment, turned}
 use Rattle.cards.specs.Answers.{Unmoved, board_after, Answered}
 use Rattle.cards.specs.Runs.{Issued}
+use Rattle.cards.specs.Drawing.{DrawnUp}
 use Rattle.cards.specs.declared.state.State.{State}
 use Rattle.cards.specs.declared.state.State.TheVariants.{Waiting, InHand, Finished}
 use Rattle.cards.specs.declared.state.Event.{Event}
@@ -48,13 +49,22 @@ finish_is_none e = both_ways false refl (ap begins e)
 
 module _ (m : Model) (law : Lawful m) (places : List Place) (rows : List (List ℕ)) (span : ℕ) (room : m.facts ≤ span) where
   -- the card of a plan that is laid out is issued, every place waiting
-  pub issued_shown : (t : Task) (stratum : List ℕ) (count n : ℕ) → Laid m t places rows stratum count → every (λ x. ltb x m.facts) t.start ≡ true
+  pub issued_shown : (t : Task) (stratum : List ℕ) (count n : ℕ) → Laid m t places rows stratum count
       → Issued (card_of m places rows span) t (moment (replicate n Waiting) t.start)
-  issued_shown t stratum count n laid e =
-      let known = listed_within m.facts t.start e in
-      let waits = all_wait n in
-      let held : (q : ℕ) → listed t.start q ≡ listed t.start q = λ q. refl in
-      search (laid.accepted, laid.arranged, laid.exact)
+  issued_shown t stratum count n laid =
+      record { accepted = laid.accepted; room = room; places = laid.arranged; exact = laid.exact; waiting = all_wait n; start = λ q. refl }
+
+  -- it is drawn up, where the start facts are facts of the book
+  pub drawn_shown : (t : Task) (stratum : List ℕ) (count n : ℕ) → Laid m t places rows stratum count → every (λ x. ltb x m.facts) t.start ≡ true
+      → DrawnUp (card_of m places rows span) t (λ u. get_or (replicate n Waiting) u Waiting)
+  drawn_shown t stratum count n laid e = record {
+    accepted = laid.accepted;
+    room = room;
+    known = listed_within m.facts t.start e;
+    places = laid.arranged;
+    exact = laid.exact;
+    waiting = all_wait n;
+  }
 
   module _ (states : List State) (facts : List ℕ) where
     -- whether all below n that precede p are finished

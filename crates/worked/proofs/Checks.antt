@@ -92,17 +92,13 @@ module _ (m : Model) (law : Lawful m) (t : Task) where
         matches_shown r.0,
         (
           k,
+          refl,
           record {
             there = ltb-true _ _ q.0;
             reached = recognized_shown m law (listed t.start) (take k t.levels) orders q.1;
-            refused = (
-              refl,
-              record {
-                has = has_shown level a h.0;
-                lacking = first_shown (λ q. m.needs a q && not (E q)) p f.0 g.0;
-                smaller = λ b i l. elim (all-has (λ b. (b < a → ⊥) ⊎ Met m E b) level b small i) [ inl n ↦ absurd (n l) | inr w ↦ w ];
-              },
-            );
+            has = has_shown level a h.0;
+            lacking = first_shown (λ q. m.needs a q && not (E q)) p f.0 g.0;
+            smaller = λ b i l. elim (all-has (λ b. (b < a → ⊥) ⊎ Met m E b) level b small i) [ inl n ↦ absurd (n l) | inr w ↦ w ];
           },
         ),
       )
@@ -119,10 +115,12 @@ module _ (m : Model) (law : Lawful m) (t : Task) where
         matches_shown r.0,
         (
           k,
+          refl,
           record {
             there = ltb-true _ _ q.0;
             reached = recognized_shown m law (listed t.start) (take k t.levels) orders q.1;
-            refused = rw is (refl, record { met = met_shown m law (facts_after_levels m t k) (x ∷ xs) h.0; stuck = refused_shown m law x xs h.1 });
+            met = rw is (met_shown m law (facts_after_levels m t k) (x ∷ xs) h.0);
+            stuck = rw is (refused_shown m law x xs h.1);
           },
         ),
       )

@@ -1,5 +1,5 @@
 -- Timetables, shown by tests.
-use Rattle.std.proofs.Common.{◌≡◌, ℕ, zero, Bool, true, not, ◌&&◌, ◌||◌, ltb, leb, ◌⊎◌, List, [], length, get_or, Ok, refl, inl, inr, arith, rules}
+use Rattle.std.proofs.Common.{◌≡◌, ℕ, Bool, true, not, ◌&&◌, ◌||◌, ltb, leb, ◌⊎◌, List, [], length, get_or, Ok, refl, inl, inr, arith, rules}
 use Rattle.std.proofs.lemmas.Bool.{and_parts, or_cases, leb-true}
 use Rattle.std.proofs.lemmas.Bool.Decides.{Decides-or, Decides-not, nat_tests}
 use Rattle.timetables.specs.Scale.{Scale, Laws}

@@ -10,6 +10,7 @@ use Rattle.checks.specs.declared.fault.PlanFault.TheVariants.{NeedMissing, NoOrd
 use Rattle.cards.specs.Moments.{Setting, Moment}
 use Rattle.cards.specs.Answers.{Answered}
 use Rattle.cards.specs.Runs.{Issued}
+use Rattle.cards.specs.Drawing.{DrawnUp}
 use Rattle.cards.specs.declared.state.State.TheVariants.{Waiting, InHand, Finished}
 use Rattle.cards.specs.declared.state.Event.TheVariants.{Begin, Finish}
 use Rattle.cards.specs.declared.fault.RunFault.TheVariants.{NoPlace, WrongState, Unfinished}
@@ -21,8 +22,8 @@ abbrev pub on_rack : List ℕ → List ℕ → List (List ℕ) → Task
 on_rack start goal levels = record { facts = 7; steps = 7; start = start; goal = goal; levels = levels }
 
 -- put logger 0 in and settle; then put logger 1 in and read logger 0
-abbrev pub two_level_bytes : Task
-two_level_bytes = on_rack (2 ∷ 3 ∷ []) (5 ∷ []) ((0 ∷ 6 ∷ []) ∷ (1 ∷ 4 ∷ []) ∷ [])
+abbrev pub two_level_task : Task
+two_level_task = on_rack (2 ∷ 3 ∷ []) (5 ∷ []) ((0 ∷ 6 ∷ []) ∷ (1 ∷ 4 ∷ []) ∷ [])
 
 -- put logger 0 in; then put logger 1 in
 abbrev pub side_by_side : Task
@@ -47,7 +48,7 @@ one_order_task = record { facts = 4; steps = 3; start = 0 ∷ []; goal = 3 ∷ [
 abbrev pub ring_task : Task
 ring_task = record { facts = 3; steps = 3; start = 0 ∷ 1 ∷ 2 ∷ []; goal = []; levels = (0 ∷ 1 ∷ 2 ∷ []) ∷ [] }
 
--- the places of twoLevels: put logger 0 in, settle, read logger 0, put logger 1 in; and the places that precede each
+-- the places of two_level_task: put logger 0 in, settle, read logger 0, put logger 1 in; and the places that precede each
 abbrev pub two_level_places : List Place
 two_level_places = on 0 1 ∷ on 6 1 ∷ on 4 2 ∷ on 1 2 ∷ []
 
@@ -61,7 +62,7 @@ side_places = on 0 1 ∷ on 1 2 ∷ []
 abbrev pub side_rows : List (List ℕ)
 side_rows = [] ∷ [] ∷ []
 
--- moments of twoLevels: every place waits; place 0 is in hand; place 0 is finished
+-- moments of two_level_task: every place waits; place 0 is in hand; place 0 is finished
 abbrev pub all_waiting : Moment
 all_waiting = moment (Waiting ∷ Waiting ∷ Waiting ∷ Waiting ∷ []) (2 ∷ 3 ∷ [])
 
@@ -84,7 +85,7 @@ both_in_hand = moment (InHand ∷ InHand ∷ []) (2 ∷ 3 ∷ [])
 abbrev pub second_finished : Moment
 second_finished = moment (InHand ∷ Finished ∷ []) (1 ∷ 2 ∷ [])
 
--- the cards of twoLevels and side_by_side beside a board of that span, from their issue on
+-- the cards of two_level_task and side_by_side beside a board of that span, from their issue on
 module _ (span : ℕ) where
   abbrev pub two_level_card : Setting
   two_level_card = card_of rack two_level_places two_level_rows span
@@ -93,7 +94,8 @@ module _ (span : ℕ) where
   side_card = card_of rack side_places side_rows span
 
   pub record TwoLevelCalls : Type 0 where
-    pub issued : Issued two_level_card two_level_bytes all_waiting
+    pub issued : Issued two_level_card two_level_task all_waiting
+    pub drawn : DrawnUp two_level_card two_level_task all_waiting.state
     -- too soon, and no such place: 18 naming place 0, 18 naming place 1, 16; nothing changes
     pub begin_1 : Answered two_level_card all_waiting Begin 1 (Err (Unfinished 0)) all_waiting
     pub begin_3 : Answered two_level_card all_waiting Begin 3 (Err (Unfinished 1)) all_waiting
@@ -106,6 +108,7 @@ module _ (span : ℕ) where
   -- both places are in hand together, and the second is finished first: 1 and 2 are left on the board
   pub record SideBySideCalls : Type 0 where
     pub issued : Issued side_card side_by_side both_waiting
+    pub drawn : DrawnUp side_card side_by_side both_waiting.state
     pub begin_0 : Answered side_card both_waiting Begin 0 (Ok tt) one_in_hand
     pub begin_1 : Answered side_card one_in_hand Begin 1 (Ok tt) both_in_hand
     pub finish_1 : Answered side_card both_in_hand Finish 1 (Ok tt) second_finished
@@ -116,17 +119,17 @@ pub record WorkedExamples : Type 0 where
   pub rack_is_lawful : Lawful rack
   pub one_order_is_lawful : Lawful one_order_book
   pub ring_is_lawful : Lawful ring
-  pub tasks_are_lawful : AllByRecursion LawfulTask (two_level_bytes ∷ side_by_side ∷ read_unsettled ∷ nothing_to_do ∷ nothing_done ∷ one_order_task ∷ ring_task ∷ [])
+  pub tasks_are_lawful : AllByRecursion LawfulTask (two_level_task ∷ side_by_side ∷ read_unsettled ∷ nothing_to_do ∷ nothing_done ∷ one_order_task ∷ ring_task ∷ [])
   -- one calibration by hand: what stands after each step
   pub by_hand : Leaves rack (2 ∷ 3 ∷ []) (0 ∷ []) (0 ∷ 3 ∷ [])
       × Leaves rack (2 ∷ 3 ∷ []) (0 ∷ 6 ∷ []) (0 ∷ 3 ∷ 4 ∷ [])
       × Leaves rack (2 ∷ 3 ∷ []) (0 ∷ 6 ∷ 4 ∷ []) (0 ∷ 3 ∷ 4 ∷ 5 ∷ [])
       × Leaves rack (2 ∷ 3 ∷ []) (0 ∷ 6 ∷ 4 ∷ 2 ∷ []) (2 ∷ 3 ∷ 4 ∷ 5 ∷ [])
   -- accepted, in the order 0, 6, 4, 1; every place has a stratum of its own
-  pub two_levels_shown : Laid rack two_level_bytes two_level_places two_level_rows (0 ∷ 1 ∷ 2 ∷ 3 ∷ []) 4
+  pub two_levels_shown : Laid rack two_level_task two_level_places two_level_rows (0 ∷ 1 ∷ 2 ∷ 3 ∷ []) 4
   pub two_levels_timed : Timed rack two_level_places two_level_rows (0 ∷ 60 ∷ 1860 ∷ 1920 ∷ []) 1980
-  pub two_levels_end : EndsWith rack two_level_bytes (0 ∷ 1 ∷ 5 ∷ [])
-  pub two_levels_recast : RecastAs rack two_level_bytes ((0 ∷ []) ∷ (6 ∷ []) ∷ (4 ∷ []) ∷ (1 ∷ []) ∷ []) 46
+  pub two_levels_end : EndsWith rack two_level_task (0 ∷ 1 ∷ 5 ∷ [])
+  pub two_levels_recast : RecastAs rack two_level_task ((0 ∷ []) ∷ (6 ∷ []) ∷ (4 ∷ []) ∷ (1 ∷ []) ∷ []) 46
   -- on every board with room for the 7 facts
   pub two_levels_called : (span : ℕ) → 7 ≤ span → TwoLevelCalls span
   -- neither place precedes the other: one stratum
