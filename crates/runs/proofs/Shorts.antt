@@ -1,5 +1,5 @@
 -- A buffer that is too short, where a card can be drawn up.
-use Rattle.std.proofs.Common.{◌≡◌, ℕ, ◌<◌, ◌⊎◌, List, [], ◌∷◌, ◌++◌, length, Ok, Err, refl, inl, inr, arith}
+use Rattle.std.proofs.Common.{◌≡◌, ℕ, ◌<◌, List, [], ◌∷◌, ◌++◌, length, Ok, Err, refl, inl, inr, arith}
 use Rattle.std.specs.List.{AllByRecursion}
 use Rattle.sheets.specs.declared.writing.TooShort.{TooShort}
 use Rattle.books.specs.Book.{Model, Lawful}
@@ -9,11 +9,11 @@ use Rattle.plans.proofs.Recasting.{all_authorized}
 use Rattle.plans.proofs.Stratifying.{stratifying}
 use Rattle.task_sheets.specs.Content.{Task, encode}
 use Rattle.cards.specs.Cards.{size_of}
-use Rattle.cards.specs.Issues.{DrawAnswered}
+use Rattle.cards.specs.Drawing.{DrawAnswered}
 use Rattle.cards.specs.declared.card.Card.{Card}
 use Rattle.recasts.specs.Recasts.{RecastOf, CardOf, RecastWritten}
 use Rattle.runs.specs.Rooms.{Lent, FirstShort, Enough}
-use Rattle.runs.specs.Whole.{by_places, buffers, Short}
+use Rattle.runs.specs.Whole.{by_places, Short}
 use Rattle.runs.specs.declared.lengths.Lengths.{Lengths}
 
 -- the first short buffer stays the first where others follow

@@ -1,14 +1,14 @@
 -- Every card has a timetable for all weights, and each that is written keeps the precedences and is least.
-use Rattle.std.proofs.Common.{◌≡◌, ℕ, zero, suc, ◌+◌, ◌<◌, ◌≤◌, Bool, true, cond, ◌⊎◌, List, length, set, Ok, Err, Result, refl, ◌∙◌, subst, ⊎_elim, add-one, arith, length-set}
+use Rattle.std.proofs.Common.{◌≡◌, ℕ, zero, suc, ◌<◌, ◌≤◌, Bool, cond, List, length, set, Ok, Err, Result, refl, ◌∙◌, subst, ⊎_elim, add-one, arith, length-set}
 use Rattle.sheets.specs.declared.writing.TooShort.{TooShort}
 use Rattle.cards.specs.Cards.{size_of, precedes_of}
 use Rattle.cards.specs.declared.card.Card.{Card}
 use Rattle.timetables.specs.Scale.{Scale, Laws}
-use Rattle.timetables.specs.Timetable.{greater_of, Greatest, sum, by_place, Written, Timetabled}
+use Rattle.timetables.specs.Timetable.{greater_of, Greatest, sum, by_place, Timetabled}
 use Rattle.timetables.proofs.Greatests.{greatest_none, greatest_turn}
 use Rattle.timetables.proofs.Tables.{SoFar, so_far_none, so_far_more, written_made}
 use Rattle.timetables.proofs.Upward.{upward}
-use Rattle.runs.specs.Times.{Timed, TimesKept, EveryTimetable}
+use Rattle.runs.specs.Times.{Timed, EveryTimetable}
 
 module _ {M : Type 0} {s : Scale M} (laws : Laws s) where
   some_greatest : (picked : ℕ → Bool) (value : ℕ → M) (n : ℕ) → (x : M) × Greatest s picked value n x

@@ -7,11 +7,12 @@ use Rattle.cards.specs.Moments.{Setting, Moment}
 use Rattle.cards.specs.Cards.{setting_of, moment_of, RequestReplied}
 use Rattle.cards.specs.Issues.{Numbered}
 use Rattle.cards.specs.Replies.{Replied}
-use Rattle.cards.specs.Runs.{Made, Trail, after_all}
+use Rattle.cards.specs.Requests.{Made}
 use Rattle.cards.specs.declared.card.Card.{Card}
 use Rattle.cards.specs.declared.request.Request.{Request}
 use Rattle.cards.specs.declared.request.Reply.{Reply}
-use Rattle.cards.proofs.Trails.{trail_more, after_more, setting_stays}
+use Rattle.cards.proofs.Trails.{setting_stays}
+use Rattle.cards.proofs.RequestTrails.{trail_more, after_more}
 use Rattle.checks.specs.Tables.{blank}
 use Rattle.checks.specs.declared.arrangement.Arrangement.{Arrangement}
 use Rattle.runs.specs.Whole.{Carried}

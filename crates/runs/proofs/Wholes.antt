@@ -4,15 +4,17 @@ use Rattle.books.specs.Book.{Model, Facts, Lawful}
 use Rattle.books.specs.Listed.{listed}
 use Rattle.task_sheets.specs.Content.{Task}
 use Rattle.cards.specs.Moments.{Setting}
-use Rattle.cards.specs.Cards.{state_of, size_of, precedes_of, setting_of, moment_of}
-use Rattle.cards.specs.Issues.{Numbered, DrawAnswered}
+use Rattle.cards.specs.Cards.{size_of, precedes_of, setting_of, moment_of}
+use Rattle.cards.specs.Issues.{Numbered}
+use Rattle.cards.specs.Drawing.{DrawAnswered}
 use Rattle.cards.specs.Runs.{Issued}
 use Rattle.cards.specs.declared.card.Card.{Card}
 use Rattle.cards.specs.declared.request.Request.{Request}
 use Rattle.cards.specs.declared.request.Reply.{Reply}
-use Rattle.cards.proofs.Running.{run_law}
-use Rattle.cards.proofs.Starting.{start_held}
-use Rattle.cards.proofs.Trails.{each_run, setting_stays}
+use Rattle.cards.proofs.Requesting.{run_law}
+use Rattle.cards.proofs.Drawing.{drawn_issued}
+use Rattle.cards.proofs.Trails.{setting_stays}
+use Rattle.cards.proofs.RequestTrails.{each_run}
 use Rattle.recasts.specs.Recasts.{RecastWritten}
 use Rattle.timetables.specs.Scale.{Scale, Laws}
 use Rattle.timetables.specs.Timetable.{Timetabled}
@@ -29,11 +31,11 @@ pub whole : {M : Type 0} {s : Scale M} (laws : Laws s) (m : Model) (lawful : Law
     → WholeRun s m span t c₀ requests replies₀ replies weights begins₀ begins sheet₀ sheet c board end written
 whole laws m lawful span now t c₀ fresh c board₁ board requests replies₀ replies weights begins₀ begins sheet₀ sheet end written d e h f run rest timed recast =
     let b = moment_of fresh board₁ in
-    let start = start_held (setting_of m span fresh) t (state_of fresh) d.1 in
-    let from = subst (λ (x : Setting). Issued x t b) (sym (setting_stays m span span fresh c refl f)) (record { drawn = d.1; start = λ q. h q ∙ start q }) in
+    let from = subst (λ (x : Setting). Issued x t b) (sym (setting_stays m span span fresh c refl f)) (drawn_issued (setting_of m span fresh) t b d.1 h) in
     let own = subst (λ (x : Setting). Carried x b requests (take (length requests) replies) (moment_of c board)) (setting_stays m span now fresh fresh e refl ∙ sym (setting_stays m span span fresh c refl f)) (run d.2) in
     record {
       idle = d.0;
+      known = d.1.known;
       issued = b;
       from = from;
       own = own;

@@ -9,8 +9,8 @@ use Rattle.timetables.specs.Timetable.{Greatest, sum, Keeps, by_place, Timetable
 module _ {M : Type 0} (s : Scale M) where
   -- begins of the places of a card that keep the precedences, no list that keeps them beginning any place earlier, and their end
   pub record Timed (c : Card) (weights begins : List M) (end : M) : Type 0 where
-    pub keeps : Keeps s (size_of c) (precedes_of c) (by_place s weights) (by_place s begins)
-    pub least : (others : ℕ → M) → Keeps s (size_of c) (precedes_of c) (by_place s weights) others → (v : ℕ) → v < size_of c → s.within (by_place s begins v) (others v) ≡ true
+    pub keeps : Keeps s (precedes_of c) (by_place s weights) (by_place s begins)
+    pub least : (others : ℕ → M) → Keeps s (precedes_of c) (by_place s weights) others → (v : ℕ) → v < size_of c → s.within (by_place s begins v) (others v) ≡ true
     pub ended : Greatest s (λ _. true) (sum s (by_place s weights) (by_place s begins)) (size_of c) end
 
   -- from every card, whatever the states of its places, and for all weights a timetable can be written where there is room for it;

@@ -1,11 +1,13 @@
 -- The law of a whole run: what one call that issues a task, carries a crew's requests out, times the places and recasts the plan promises.
-use Rattle.std.specs.Prelude.{◌≡◌, ℕ, List, [], ◌∷◌, ◌++◌, map, length, take, drop, Ok, Err, Result}
+use Rattle.std.specs.Prelude.{◌≡◌, ℕ, ◌≤◌, false, List, [], ◌∷◌, ◌++◌, map, length, take, drop, Ok, Err}
 use Rattle.books.specs.Book.{Model, Facts}
+use Rattle.books.specs.Listed.{listed}
 use Rattle.task_sheets.specs.Content.{Task, encode}
 use Rattle.cards.specs.Moments.{Setting, Moment}
 use Rattle.cards.specs.Cards.{size_of, precedes_of, setting_of, moment_of, NoneInHand}
-use Rattle.cards.specs.Issues.{DrawAnswered}
-use Rattle.cards.specs.Runs.{Issued, Made, Trail, after_all, RunKept, OneTrail}
+use Rattle.cards.specs.Runs.{Issued}
+use Rattle.cards.specs.Requests.{Made, Trail, after_all, RunKept, OneTrail}
+use Rattle.cards.specs.Drawing.{DrawAnswered}
 use Rattle.cards.specs.declared.card.Card.{Card}
 use Rattle.cards.specs.declared.request.Request.{Request}
 use Rattle.cards.specs.declared.request.Reply.{Reply}
@@ -57,6 +59,8 @@ module _ {M : Type 0} (s : Scale M) (m : Model) (span : ℕ) (t : Task) (c₀ : 
   -- what holds of a run that was carried out. c and board stand at its end; end is the timetable's, and so many bytes are the recast sheet
   pub record WholeRun (requests : List Request) (replies₀ replies : List Reply) (weights begins₀ begins : List M) (sheet₀ sheet : List ℕ) (c : Card) (board : Facts) (end : M) (written : ℕ) : Type 0 where
     pub idle : NoneInHand c₀
+    -- the start facts are among the book's
+    pub known : (q : ℕ) → m.facts ≤ q → listed t.start q ≡ false
     -- the moment after the issue
     pub issued : Moment
     pub from : Issued (setting_of m span c) t issued

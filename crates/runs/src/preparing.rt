@@ -2,7 +2,7 @@
 ghost use Rattle.std.specs.Prelude.{Ok, MatchResult};
 ghost use Rattle.task_sheets.specs.Opened.{task_of};
 ghost use Rattle.cards.specs.Cards.{size_of};
-ghost use Rattle.cards.specs.Issues.{DrawAnswered};
+ghost use Rattle.cards.specs.Drawing.{DrawAnswered};
 ghost use Rattle.runs.specs.Rooms.{FirstShort, Enough};
 ghost use Rattle.runs.specs.Whole.{by_places, RunRefused};
 

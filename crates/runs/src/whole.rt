@@ -39,7 +39,7 @@ fn time_places<M: Measure + Copy>(
     weights: &[M],
     begins: &mut [M],
 ) -> Result<M, RunFault>
-    ensures { MatchResult result (λ end. Timetabled scale (size_of card.now) (precedes_of card.now) weights.now begins.old begins.new (Ok end)) (λ _. (length weights.now < size_of card.now) ⊎ (length begins.old < size_of card.now)) }
+    ensures { MatchResult result (λ end. Timetabled M.scale (size_of card.now) (precedes_of card.now) weights.now begins.old begins.new (Ok end)) (λ _. (length weights.now < size_of card.now) ⊎ (length begins.old < size_of card.now)) }
 {
     match timetable(card, weights, begins) {
         Ok(end) => Ok(end),
@@ -61,7 +61,7 @@ pub fn carry_out<B: Book, D: Board, M: Measure + Copy>(
     sheet: &mut [u8],
 ) -> Result<Outcome<M>, RunFault>
     ensures span { D.Board.limit board.new ≡ D.Board.limit board.old }
-    ensures answered { MatchResult result (λ o. WholeRun scale (B.Book.model book.now) (D.Board.limit board.old) (task_of task.now) card.old requests.entry.now replies.old replies.new weights.now begins.old begins.new sheet.old sheet.new card.new (D.Board.set board.new) o.end o.written) (RunRefused (B.Book.model book.now) (D.Board.limit board.old) (task_of task.now) card.old (record { requests = length requests.entry.now; replies = length replies.old; weights = length weights.now; begins = length begins.old; sheet = length sheet.old })) }
+    ensures answered { MatchResult result (λ o. WholeRun M.scale (B.Book.model book.now) (D.Board.limit board.old) (task_of task.now) card.old requests.now replies.old replies.new weights.now begins.old begins.new sheet.old sheet.new card.new (D.Board.set board.new) o.end o.written) (RunRefused (B.Book.model book.now) (D.Board.limit board.old) (task_of task.now) card.old (record { requests = length requests.now; replies = length replies.old; weights = length weights.now; begins = length begins.old; sheet = length sheet.old })) }
     ensures refused { OnErr result ((card.new ≡ card.old) × (board.new ≡ board.old) × (replies.new ≡ replies.old) × (begins.new ≡ begins.old) × (sheet.new ≡ sheet.old)) }
 {
     let lent = Lengths {

@@ -1,7 +1,7 @@
-use Rattle.std.proofs.Common.{◌≡◌, length, Ok, sym, refl, ◌∙◌, subst}
+use Rattle.std.proofs.Common.{length, Ok, sym, refl, ◌∙◌, subst}
 use Rattle.std.proofs.lemmas.Result.{err_from_is_err_and}
 use Rattle.task_sheets.specs.Opened.{task_of}
-use Rattle.cards.specs.Issues.{DrawAnswered}
+use Rattle.cards.specs.Drawing.{DrawAnswered}
 use Rattle.cards.specs.declared.card.Card.{Card}
 use Rattle.runs.specs.declared.lengths.Lengths.{Lengths}
 use Rattle.runs.proofs.Shorts.{drawn_card, short_sheet}
