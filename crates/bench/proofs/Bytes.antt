@@ -1,5 +1,5 @@
 -- The bytes of the words of a set, word by word.
-use Rattle.std.proofs.Common.{◌≡◌, ℕ, suc, ◌+◌, ◌<◌, List, [], ◌∷◌, ◌++◌, length, get_or, take, refl, ap, ◌∙◌}
+use Rattle.std.proofs.Common.{◌≡◌, ℕ, ◌+◌, ◌<◌, List, [], ◌∷◌, ◌++◌, length, get_or, take, refl, ap}
 use Rattle.std.proofs.lemmas.List.{take_more}
 use Rattle.bench.specs.Records.{word_of, word_bytes}
 

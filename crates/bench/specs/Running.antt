@@ -7,11 +7,11 @@ use Rattle.task_sheets.specs.Content.{Task}
 use Rattle.facts.specs.Sets.{holds}
 use Rattle.cards.specs.Moments.{Setting, Moment}
 use Rattle.cards.specs.Replies.{Replied}
-use Rattle.cards.specs.Cards.{size_of, setting_of, moment_of}
-use Rattle.cards.specs.Issues.{Numbered, DrawAnswered}
+use Rattle.cards.specs.Cards.{size_of, state_of, setting_of, moment_of}
+use Rattle.cards.specs.Issues.{Numbered}
+use Rattle.cards.specs.Drawing.{DrawnUp, DrawAnswered}
 use Rattle.cards.specs.Runs.{Issued}
 use Rattle.cards.specs.declared.card.Card.{Card}
-use Rattle.cards.specs.declared.state.Event.{Event}
 use Rattle.cards.specs.declared.state.Event.TheVariants.{Begin, Finish, PutBack}
 use Rattle.cards.specs.declared.request.Reply.{Reply}
 use Rattle.cards.specs.declared.request.Request.{Request}
@@ -63,10 +63,11 @@ abbrev pub Recorded : Setting → Moment → List ℕ → List ℕ → ℕ → L
 Recorded s b script before n after =
     ((length before < room script) × (n ≡ 2 ^ 32) × (after ≡ before)) ⊎ ((room script ≤ length before) × Records s b script before n after)
 
--- the answer to a run, from a card without places and a board of that span
+-- the answer to a run, from a card without places and a board of that span. Where it is carried out, the card was drawn up for the task and the task issued
 abbrev pub RunAnswered : Model → ℕ → Task → List ℕ → List ℕ → Result ℕ RunFault → List ℕ → Type 0
 RunAnswered m span t script before (Ok n) after =
-    (c : Card) × (board : Facts) × Issued (setting_of m span c) t (moment_of c board) × Numbered c × Recorded (setting_of m span c) (moment_of c board) script before n after
+    (c : Card) × (board : Facts) × DrawnUp (setting_of m span c) t (state_of c) × Issued (setting_of m span c) t (moment_of c board) × Numbered c
+    × Recorded (setting_of m span c) (moment_of c board) script before n after
 RunAnswered m span t script before (Err f) after = (c : Card) × (size_of c ≡ 0) × DrawAnswered m span t c (Err f) × (after ≡ before)
 
 abbrev pub BytesRun : List ℕ → List ℕ → ℕ → List ℕ → List ℕ → Result ℕ RunFault → List ℕ → Type 0

@@ -1,4 +1,4 @@
-use Rattle.std.proofs.Common.{◌≡◌, false, eqb, sym, refl, subst, rules}
+use Rattle.std.proofs.Common.{◌≡◌, false, eqb, refl, subst, rules}
 use Rattle.bench.specs.Running.{span_for, BytesRun}
 use Rattle.bench.proofs.bench_run.Goals as goal
 

@@ -1,6 +1,7 @@
-use Rattle.std.proofs.Common.{◌≡◌, Err, refl, ap, ◌∙◌, inl, inr, arith, rules}
+use Rattle.std.proofs.Common.{Err, refl, ap, ◌∙◌, inl, inr, arith}
 use Rattle.std.proofs.lemmas.Result.{err_from_is_err_and}
-use Rattle.bench.proofs.Runs.{on_open, not_issued, records_at}
+use Rattle.checks.proofs.TaskLists.{sheet_lawful}
+use Rattle.bench.proofs.Runs.{on_open, drawn, not_drawn, not_issued, records_at}
 use Rattle.bench.proofs.running.run_bytes.Goals as goal
 
 pub returns-in_err-issue : goal.returns-in_err-issue
@@ -8,7 +9,7 @@ returns-in_err-issue g c =
     let o = c.in_ok-open.ensures in
     let p = err_from_is_err_and c.from_residual-in_err-issue.result c.from_residual-in_err-issue.ensures.1 in
     let f = c.in_err-issue.field-0.0 in
-    let d = c.in_err-issue.ensures.answered.0 in
+    let d = not_drawn _ _ _ c.new-card.result c.issue.new.card f (g.D.Board.set c.issue.new.board) c.in_err-issue.ensures.answered in
     on_open _ _ _ _ _ _ _ _ o.opens o.says.book o.says.task
     (not_issued _ _ _ _ _ _ c.new-card.result c.from_residual-in_err-issue.result f (p.1 ∙ ap Err p.2) c.new-card.ensures d refl)
 
@@ -16,12 +17,14 @@ pub returns-then-out-script : goal.returns-then-out-script
 returns-then-out-script g c =
     let o = c.in_ok-open.ensures in
     let d = c.in_ok-issue.ensures.answered in
+    let up = drawn _ _ _ c.issue.new.card _ (sheet_lawful c.open.new.task_sheet) d.1 in
     on_open _ _ _ _ _ _ _ _ o.opens o.says.book o.says.task
-    (c.issue.new.card, _, d.1, d.2, inl (omega arith, refl, refl))
+    (c.issue.new.card, _, up, d.1, d.2, inl (omega arith, refl, refl))
 
 pub returns : goal.returns
 returns g c =
     let o = c.in_ok-open.ensures in
     let d = c.in_ok-issue.ensures.answered in
+    let up = drawn _ _ _ c.issue.new.card _ (sheet_lawful c.open.new.task_sheet) d.1 in
     on_open _ _ _ _ _ _ _ _ o.opens o.says.book o.says.task
-    (c.issue.new.card, _, d.1, d.2, inr (omega arith, records_at _ _ _ c.issue.new.card _ _ _ _ _ c.in_ok-issue.ensures.span c.carry.ensures))
+    (c.issue.new.card, _, up, d.1, d.2, inr (omega arith, records_at _ _ _ c.issue.new.card _ _ _ _ _ c.in_ok-issue.ensures.span c.carry.ensures))
