@@ -7,7 +7,7 @@ use Rattle.racks.specs.declared.rack_names.RackStep.{RackStep}
 use Rattle.racks.specs.declared.rack_names.RackStep.TheVariants.{Put, TakeOut, Read, Settle}
 use Rattle.books.specs.Book.{StepSets, Lawful, count}
 use Rattle.books.specs.Listed.{listed}
-use Rattle.racks.specs.Rack.{needs_of, adds_of, deletes_of, fact_on, step_on, rack_fact_number, rack_step_number, count_of_facts, count_of_steps, step_at, numbers, set_as_words, time_of, rack_model}
+use Rattle.racks.specs.Rack.{needs_of, adds_of, deletes_of, fact_on, step_on, rack_fact_number, rack_step_number, count_of_facts, count_of_steps, step_at, numbers, set_of_step, time_of, rack_model}
 use Rattle.books.proofs.Counts.{count_none, count_entries}
 use Rattle.racks.proofs.RackNumbers.{at_step, step_below, fact_below, pair_below}
 
@@ -15,7 +15,7 @@ use Rattle.racks.proofs.RackNumbers.{at_step, step_below, fact_below, pair_below
 abbrev Numbered : (R B a : ℕ) → Option RackStep → Type 0
 Numbered R B a o = MatchOption o (count_of_steps R B ≤ a) (λ s. (step_on R B s ≡ true) × (rack_step_number R B s ≡ a))
 
-past_none : (R B a : ℕ) (of : RackStep → List RackFact) (o : Option RackStep) → Numbered R B a o → count_of_steps R B ≤ a → (p : ℕ) → set_as_words R B of o p ≡ false
+past_none : (R B a : ℕ) (of : RackStep → List RackFact) (o : Option RackStep) → Numbered R B a o → count_of_steps R B ≤ a → (p : ℕ) → set_of_step R B of o p ≡ false
 past_none R B a of None h past p = refl
 past_none R B a of (Some s) h past p = absurd (omega (arith, step_below R B s h.0, h.1))
 
@@ -31,19 +31,19 @@ not_listed R B p (f ∷ fs) h past =
     or_from _ _ (ne_eqb p (rack_fact_number R B f) (λ q. omega arith)) (not_listed R B p fs h.1 past)
 
 past_fact : (R B a p : ℕ) (of : RackStep → List RackFact) → ((s : RackStep) → step_on R B s ≡ true → All (λ f. fact_on R B f ≡ true) (of s)) →
-    (o : Option RackStep) → Numbered R B a o → count_of_facts R B ≤ p → set_as_words R B of o p ≡ false
+    (o : Option RackStep) → Numbered R B a o → count_of_facts R B ≤ p → set_of_step R B of o p ≡ false
 past_fact R B a p of on None h past = refl
 past_fact R B a p of on (Some s) h past = not_listed R B p (of s) (on s h.0) past
 
 few_facts : (R B n : ℕ) (of : RackStep → List RackFact) → ((s : RackStep) → length (numbers R B (of s)) ≤ 2) →
-    (o : Option RackStep) → count (set_as_words R B of o) n ≤ 250
+    (o : Option RackStep) → count (set_of_step R B of o) n ≤ 250
 few_facts R B n of few None = omega (arith, count_none (λ p. false) (λ p. refl) n)
 few_facts R B n of few (Some s) = omega (arith, count_entries (numbers R B (of s)) n, few s)
 
 sets : (R B : ℕ) (of : RackStep → List RackFact) → 1 ≤ B →
     ((s : RackStep) → step_on R B s ≡ true → All (λ f. fact_on R B f ≡ true) (of s)) →
     ((s : RackStep) → length (numbers R B (of s)) ≤ 2) →
-    StepSets (count_of_facts R B) (count_of_steps R B) (λ a. set_as_words R B of (step_at R B a))
+    StepSets (count_of_facts R B) (count_of_steps R B) (λ a. set_of_step R B of (step_at R B a))
 sets R B of bath on few = record {
   no_step = λ a p past. past_none R B a of (step_at R B a) (at_step R B a bath) past p;
   no_fact = λ a p past. past_fact R B a p of on (step_at R B a) (at_step R B a bath) past;
@@ -104,7 +104,7 @@ step_apart R B p (TakeOut l b) e =
 step_apart R B p (Read l b) e = and_right _ _ refl
 step_apart R B p (Settle b) e = and_right _ _ refl
 
-apart : (R B a p : ℕ) (o : Option RackStep) → Numbered R B a o → (set_as_words R B adds_of o p && set_as_words R B deletes_of o p) ≡ false
+apart : (R B a p : ℕ) (o : Option RackStep) → Numbered R B a o → (set_of_step R B adds_of o p && set_of_step R B deletes_of o p) ≡ false
 apart R B a p None h = refl
 apart R B a p (Some s) h = step_apart R B p s h.0
 

@@ -4,16 +4,16 @@ use Rattle.std.proofs.lemmas.Bool.{lt-ltb, and_from}
 use Rattle.racks.specs.declared.rack_names.RackFact.{RackFact}
 use Rattle.racks.specs.declared.rack_names.RackStep.{RackStep}
 use Rattle.racks.specs.declared.rack_names.RackStep.TheVariants.{Put, TakeOut, Read, Settle}
-use Rattle.racks.specs.Rack.{needs_of, adds_of, deletes_of, seconds_of, fact_on, step_on, rack_fact_number, rack_step_number, count_of_facts, count_of_steps, fact_at, step_at, numbers, set_as_words, time_of, rack_model, StepIs, StepNumbered, FactNumbered, RackRules}
+use Rattle.racks.specs.Rack.{needs_of, adds_of, deletes_of, seconds_of, fact_on, step_on, rack_fact_number, rack_step_number, count_of_facts, count_of_steps, fact_at, step_at, numbers, set_of_step, time_of, rack_model, StepIs, StepNumbered, FactNumbered, RackRules}
 use Rattle.racks.proofs.RackNumbers.{step_at_lem, at_step, step_below, fact_at_lem, at_fact, fact_below}
 
 pub step_is : (R B : ℕ) (s : RackStep) → step_on R B s ≡ true →
     StepIs (rack_model R B) (rack_step_number R B s) (numbers R B (needs_of s)) (numbers R B (adds_of s)) (numbers R B (deletes_of s)) (seconds_of s)
 step_is R B s e = record {
   in_range = step_below R B s e;
-  needs = λ p. ap (λ o. set_as_words R B needs_of o p) (step_at_lem R B s e);
-  adds = λ p. ap (λ o. set_as_words R B adds_of o p) (step_at_lem R B s e);
-  deletes = λ p. ap (λ o. set_as_words R B deletes_of o p) (step_at_lem R B s e);
+  needs = λ p. ap (λ o. set_of_step R B needs_of o p) (step_at_lem R B s e);
+  adds = λ p. ap (λ o. set_of_step R B adds_of o p) (step_at_lem R B s e);
+  deletes = λ p. ap (λ o. set_of_step R B deletes_of o p) (step_at_lem R B s e);
   seconds = ap time_of (step_at_lem R B s e);
 }
 

@@ -109,17 +109,17 @@ module _ (R B : ℕ) where
   numbers (f ∷ fs) = rack_fact_number f ∷ numbers fs
 
   -- the numbers of the facts that a step has by `of`, none where there is no step
-  abbrev pub set_as_words : (RackStep → List RackFact) → Option RackStep → Facts
-  set_as_words of None p = false
-  set_as_words of (Some s) p = listed (numbers (of s)) p
+  abbrev pub set_of_step : (RackStep → List RackFact) → Option RackStep → Facts
+  set_of_step of None p = false
+  set_of_step of (Some s) p = listed (numbers (of s)) p
 
   abbrev pub rack_model : Model
   rack_model = record {
     facts = count_of_facts;
     steps = count_of_steps;
-    needs = λ a. set_as_words needs_of (step_at a);
-    adds = λ a. set_as_words adds_of (step_at a);
-    deletes = λ a. set_as_words deletes_of (step_at a);
+    needs = λ a. set_of_step needs_of (step_at a);
+    adds = λ a. set_of_step adds_of (step_at a);
+    deletes = λ a. set_of_step deletes_of (step_at a);
     seconds = λ a. time_of (step_at a);
   }
 
