@@ -1,5 +1,7 @@
--- The words for the facts and the steps of a rack.
+-- The words for the facts, the steps and the fault of a rack.
 use Rattle.std.specs.Prelude.{ℕ, List, ◌++◌, codes, decimal}
+use Rattle.racks.specs.RackFault.{refusal_of}
+use Rattle.racks.specs.declared.rack_fault.RackFault.{RackFault}
 use Rattle.racks.specs.declared.rack_names.RackFact.{RackFact}
 use Rattle.racks.specs.declared.rack_names.RackFact.TheVariants.{InBath, OnShelf, Settled, ReadIn}
 use Rattle.racks.specs.declared.rack_names.RackStep.{RackStep}
@@ -16,3 +18,7 @@ step_text (Put l b) = codes "put logger " ++ (decimal l ++ (codes " in bath " ++
 step_text (TakeOut l b) = codes "take logger " ++ (decimal l ++ (codes " out of bath " ++ decimal b))
 step_text (Read l b) = codes "read logger " ++ (decimal l ++ (codes " in bath " ++ decimal b))
 step_text (Settle b) = codes "settle bath " ++ decimal b
+
+-- the fault, by the refusal's number
+abbrev pub fault_text : RackFault → List ℕ
+fault_text f = codes "refused " ++ decimal (refusal_of f).number

@@ -20,8 +20,6 @@ impl RackFault {
 }
 
 // The fault stands on the list of refusals.
-pub fn the_fault_is_listed() -> u8
+pub fn the_fault_is_listed()
     ensures { Numbering }
-{
-    0
-}
+{}

@@ -1,7 +1,9 @@
-ghost use Rattle.racks.specs.RackText.{fact_text, step_text};
+ghost use Rattle.racks.specs.RackText.{fact_text, step_text, fault_text};
 ghost use Rattle.std.specs.Prelude.{Some};
 
+use crate::rack_fault::RackFault;
 use crate::rack_names::{RackFact, RackStep};
+use std::error::Error;
 use std::fmt;
 
 impl fmt::Display for RackFact {
@@ -32,3 +34,15 @@ impl fmt::Display for RackStep {
         }
     }
 }
+
+// The fault in words: the refusal's number.
+impl fmt::Display for RackFault {
+    ghost output = { λ f. Some (fault_text f) };
+
+    fn fmt<W: fmt::Write>(&self, f: &mut fmt::Formatter<W>) -> fmt::Result {
+        let number = self.number();
+        write!(f, "refused {number}")
+    }
+}
+
+impl Error for RackFault {}
