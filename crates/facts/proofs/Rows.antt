@@ -82,3 +82,13 @@ module _ (words : List ℕ) (p n v : ℕ) (from : p / 64 ≤ n) (below : Clear w
         (λ (k : q / 64 < n). below q h (omega arith))
         (λ (k : n ≤ q / 64). at_word q h (omega arith) ∙ low_under (q % 64) (omega arith))
         (cases_lt (q / 64) n)
+
+-- a set that is told below n and empty past it, against a set of numbers below n
+pub told_all : (words : List ℕ) (P : ℕ → Bool) (n room : ℕ) → n ≤ room
+    → ((q : ℕ) → q < n → q < room → holds words q ≡ P q) → ((q : ℕ) → n ≤ q → holds words q ≡ false)
+    → ((q : ℕ) → n ≤ q → P q ≡ false) → (q : ℕ) → holds words q ≡ P q
+told_all words P n room fits below past none q =
+    ⊎_elim
+    (λ (h : q < n). below q h (omega arith))
+    (λ (h : n ≤ q). past q h ∙ sym (none q h))
+    (cases_lt q n)

@@ -22,48 +22,46 @@ pub type StepSet = NumberSet<8>;
 // A set of places, 0 to 255.
 pub type PlaceSet = NumberSet<4>;
 
-impl NumberSet<16> {
-    // The set without facts.
-    pub fn empty() -> FactSet
+impl<const W: usize> NumberSet<W> {
+    // The set without numbers.
+    pub fn empty() -> Self
+        requires { W ≤ 16 }
         ensures { (q : ℕ) → holds result.words q ≡ false }
     {
-        NumberSet { words: [0; 16] }
+        NumberSet { words: [0; W] }
     }
 
     // The set that these words hold.
-    pub fn of(words: [u64; 16]) -> FactSet
-        ensures { result.words ≡ words }
+    pub fn of(words: [u64; W]) -> Self
+        requires { W ≤ 16 }
+        ensures { result.words ≡ words.entry }
     {
         NumberSet { words }
     }
 
     // The words of the set.
-    pub fn words(self) -> [u64; 16]
-        ensures { result ≡ self.words }
+    pub fn words(self) -> [u64; W]
+        ensures { result ≡ self.entry.words }
     {
         self.words
     }
-}
 
-impl NumberSet<8> {
-    // The set without steps.
-    pub fn empty() -> StepSet
-        ensures { (q : ℕ) → holds result.words q ≡ false }
+    // The numbers below `n` for which `f` answers yes, as far as the set has room for them.
+    pub fn from_fn<F: Fn(usize) -> bool>(n: usize, f: F) -> Self
+        requires few { W ≤ 16 }
+        requires callable { (p : ℕ) → p < n → F.pre f p }
+        ensures below { (q : ℕ) → q < n → q < 64 * W → F.post f q (holds result.words q) }
+        ensures past { (q : ℕ) → n ≤ q → holds result.words q ≡ false }
     {
-        NumberSet { words: [0; 8] }
+        let mut set = Self::empty();
+        for p in 0..n {
+            if f(p) {
+                set.insert(p);
+            }
+        }
+        set
     }
-}
 
-impl NumberSet<4> {
-    // The set without places.
-    pub fn empty() -> PlaceSet
-        ensures { (q : ℕ) → holds result.words q ≡ false }
-    {
-        NumberSet { words: [0; 4] }
-    }
-}
-
-impl<const W: usize> NumberSet<W> {
     // Whether the set holds `p`.
     pub fn contains(&self, p: usize) -> bool
         ensures { result ≡ holds self.now.words p }

@@ -1,5 +1,0 @@
-use Rattle.facts.proofs.Words.{holds_zero}
-use Rattle.facts.proofs.NumberSet+4.empty.Goals as goal
-
-pub returns : goal.returns
-returns c q = holds_zero 4 q
