@@ -15,23 +15,10 @@ pub struct StepFacts {
 pub fn gather<B: Book>(book: &B, a: usize) -> StepFacts
     ensures { Gathers (B.Book.model book.now) a result }
 {
-    let mut needs = FactSet::empty();
-    let mut adds = FactSet::empty();
-    let mut deletes = FactSet::empty();
-    for p in 0..book.facts() {
-        if book.needs(a, p) {
-            needs.insert(p);
-        }
-        if book.adds(a, p) {
-            adds.insert(p);
-        }
-        if book.deletes(a, p) {
-            deletes.insert(p);
-        }
-    }
+    let facts = book.facts();
     StepFacts {
-        needs,
-        adds,
-        deletes,
+        needs: FactSet::from_fn(facts, |p| book.needs(a, p)),
+        adds: FactSet::from_fn(facts, |p| book.adds(a, p)),
+        deletes: FactSet::from_fn(facts, |p| book.deletes(a, p)),
     }
 }
