@@ -2,3 +2,4 @@ pub mod Verdicts
 pub mod Stands
 pub mod Entries
 pub mod Buffers
+pub mod Writers

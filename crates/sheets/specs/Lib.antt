@@ -4,4 +4,5 @@ pub mod Fields
 pub mod Lists
 pub mod Writing
 pub mod FaultText
+pub mod Writers
 pub mod Laws

@@ -6,7 +6,9 @@ pub mod fault_text;
 pub mod fields;
 pub mod laws;
 pub mod lists;
+pub mod writer;
 pub mod writing;
 
 pub use fault::{Refusal, Refused, Sheet, SheetFault};
+pub use writer::Writer;
 pub use writing::TooShort;

@@ -1,0 +1,24 @@
+-- Bytes written by a writer, one behind the other.
+use Rattle.std.proofs.Common.{◌≡◌, ℕ, ◌+◌, List, [], ◌++◌, length, refl, ◌∙◌, arith}
+use Rattle.sheets.specs.declared.writer.Writer.{Writer}
+use Rattle.sheets.specs.Writers.{Room, Writes}
+use Rattle.sheets.proofs.Buffers.{wrote_none, wrote_on, wrote_length, wrote_as}
+
+-- nothing written
+pub writes_none : (w : Writer) → Writes w [] w
+writes_none w = record { wrote = wrote_none w.out.now w.at; lent = refl }
+
+-- bytes written behind bytes written are both written at once
+pub writes_on : {u v w : Writer} {ys zs : List ℕ} → Room u 0 → Writes u ys v → Writes v zs w → Writes u (ys ++ zs) w
+writes_on h p q = record { wrote = wrote_on (omega (arith, h)) p.wrote q.wrote; lent = q.lent ∙ p.lent }
+
+-- the same bytes under another name
+pub writes_as : {u v : Writer} {ys zs : List ℕ} → ys ≡ zs → Writes u ys v → Writes u zs v
+writes_as e p = record { wrote = wrote_as e p.wrote; lent = p.lent }
+
+-- there is as much room behind what is written as there was, without the bytes written
+pub writes_room : {u v : Writer} {ys : List ℕ} (n : ℕ) → Room u (length ys + n) → Writes u ys v → Room v n
+writes_room {u} {v} {ys} n h p =
+    let l = wrote_length {ys = ys} {at = u.at} (omega (arith, h)) p.wrote in
+    let k = p.wrote.place in
+    omega (arith, h, l, k)

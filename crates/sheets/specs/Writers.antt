@@ -1,0 +1,13 @@
+-- What a writer does to the buffer that it is lent.
+use Rattle.std.specs.Prelude.{◌≡◌, ℕ, ◌+◌, ◌≤◌, List, length}
+use Rattle.sheets.specs.declared.writer.Writer.{Writer}
+use Rattle.sheets.specs.Writing.{Wrote}
+
+-- so many bytes fit behind what is written
+abbrev pub Room : Writer → ℕ → Type 0
+Room w n = w.at + n ≤ length w.out.now
+
+-- the bytes are written behind what was written, into the same buffer
+pub record Writes (old : Writer) (bytes : List ℕ) (new : Writer) : Type 0 where
+  pub wrote : Wrote old.out.now old.at bytes new.out.now new.at
+  pub lent : new.out.ghost_name ≡ old.out.ghost_name

@@ -1,0 +1,46 @@
+// Bytes written one behind the other into a lent buffer.
+ghost use Rattle.std.specs.Prelude.{◌≡◌, length};
+ghost use Rattle.sheets.specs.Writers.{Room, Writes};
+
+use crate::writing::put_bytes;
+
+// A lent buffer, and the place up to which it is written.
+pub struct Writer<'a> {
+    out: &'a mut [u8],
+    at: usize,
+}
+
+// The buffer goes back as the writer left it.
+impl Drop for Writer<'_> {
+    fn drop(self)
+        ensures { self.exit.0.now ≡ self.entry.out.now }
+    {
+        let Writer { out: _, at: _ } = self;
+    }
+}
+
+impl<'a> Writer<'a> {
+    // A writer at the front of the buffer.
+    pub fn new(out: &'a mut [u8]) -> Writer<'a>
+        ensures bytes { result.out.now ≡ out.old }
+        ensures front { result.at ≡ 0 }
+        ensures lent { result.out.ghost_name ≡ out.entry.ghost_name }
+    {
+        Writer { out, at: 0 }
+    }
+
+    // The place behind what is written.
+    pub fn place(&self) -> usize
+        ensures { result ≡ self.now.at }
+    {
+        self.at
+    }
+
+    // Writes the bytes behind what is written, where the buffer has room for them.
+    pub fn put_bytes(&mut self, bytes: &[u8])
+        requires { Room self.old (length bytes.now) }
+        ensures { Writes self.old bytes.now self.new }
+    {
+        self.at = put_bytes(self.out, self.at, bytes);
+    }
+}
