@@ -22,10 +22,8 @@ fn clear_each<D: Board>(board: &mut D, facts: &FactSet)
     ensures span { D.Board.limit board.new ≡ D.Board.limit board.old }
     ensures holds { (q : ℕ) → D.Board.set board.new q ≡ (D.Board.set board.old q && not (holds facts.now.words q)) }
 {
-    for p in 0..board.span() {
-        if facts.contains(p) {
-            board.clear(p);
-        }
+    for p in facts.iter() {
+        board.clear(p);
     }
 }
 
@@ -34,10 +32,8 @@ fn put_each<D: Board>(board: &mut D, facts: &FactSet)
     ensures span { D.Board.limit board.new ≡ D.Board.limit board.old }
     ensures holds { (q : ℕ) → D.Board.set board.new q ≡ (D.Board.set board.old q || (holds facts.now.words q && nat_lt q (D.Board.limit board.old))) }
 {
-    for p in 0..board.span() {
-        if facts.contains(p) {
-            board.put(p);
-        }
+    for p in facts.iter() {
+        board.put(p);
     }
 }
 

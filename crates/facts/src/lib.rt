@@ -1,7 +1,8 @@
 // Sets of small numbers, a bit for each number.
 #![tactic(auto)]
 
-ghost use Rattle.std.specs.Prelude.{◌≡◌, ℕ, ◌*◌, ◌<◌, ◌≤◌, Bool, true, false, not, ◌&&◌, ◌||◌, length, if◌then◌else◌, MatchBool, MatchOption, ◌==◌, nat_lt};
+ghost use Rattle.std.specs.Prelude.{◌≡◌, ℕ, ◌+◌, ◌-◌, ◌*◌, ◌<◌, ◌≤◌, Bool, true, false, not, ◌&&◌, ◌||◌, length, if◌then◌else◌, MatchBool, MatchOption, ◌==◌, nat_lt};
+ghost use Rattle.std.specs.Iterator.{at_most};
 ghost use Rattle.facts.specs.Sets.{holds, First, Next, same_below};
 ghost use Rattle.facts.specs.Laws.{same_numbers, same_numbers-partial};
 
@@ -171,6 +172,34 @@ impl<const W: usize> NumberSet<W> {
         ensures { MatchBool result ((q : ℕ) × ((holds self.now.words q && holds other.now.words q) ≡ true)) ((q : ℕ) → (holds self.now.words q && holds other.now.words q) ≡ false) }
     {
         self.common(other).first().is_some()
+    }
+    // The numbers of the set in ascending order.
+    pub fn iter(&self) -> Members<'_, W>
+        ensures set { result.set.now.words ≡ self.now.words }
+        ensures from { result.from ≡ 0 }
+    {
+        Members { set: self, from: 0 }
+    }
+}
+
+// The numbers of a set from `from` on, in ascending order.
+#[derive(Drop)]
+pub struct Members<'a, const W: usize> {
+    set: &'a NumberSet<W>,
+    from: usize,
+}
+
+impl<'a, const W: usize> Iterator for Members<'a, W> {
+    type Item = usize;
+
+    ghost next_gives = { λ s r t. (t.set.now.words ≡ s.set.now.words) × MatchOption r ((q : ℕ) → s.from ≤ q → holds s.set.now.words q ≡ false) (λ n. (n < 64 * W) × Next (holds s.set.now.words) s.from n × (t.from ≡ n + 1)) };
+
+    ghost remaining = { λ s. at_most (64 * W - s.from) };
+
+    fn next(&mut self) -> Option<usize> {
+        let number = self.set.next_from(self.from)?;
+        self.from = number + 1;
+        Some(number)
     }
 }
 

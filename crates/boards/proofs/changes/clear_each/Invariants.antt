@@ -6,6 +6,7 @@ abbrev pub invariant-loop-p : goal.invariant-loop-p
 invariant-loop-p g l =
     let d = g.D.Board in
     let old = d.set l.initial.board in
-    (d.limit l.board ≡ d.limit l.initial.board)
-    × ((q : ℕ) → q < l.p → d.set l.board q ≡ (old q && not (holds l.facts.words q)))
-    × ((q : ℕ) → l.p ≤ q → d.set l.board q ≡ old q)
+    (l.p-iterator.set.now.words ≡ l.facts.words)
+    × (d.limit l.board ≡ d.limit l.initial.board)
+    × ((q : ℕ) → q < l.p-iterator.from → d.set l.board q ≡ (old q && not (holds l.facts.words q)))
+    × ((q : ℕ) → l.p-iterator.from ≤ q → d.set l.board q ≡ old q)
