@@ -1,29 +1,13 @@
 -- Calls on two sheets, given as bytes.
 use Rattle.std.specs.Prelude.{◌≡◌, ℕ, List, Ok, Err, Result}
 use Rattle.books.specs.Book.{Model}
-use Rattle.sheets.specs.declared.fault.Sheet.TheVariants.{Book, Task}
-use Rattle.sheets.specs.Verdicts.{verdict_on}
-use Rattle.book_sheets.specs.Layout.{book_verdict}
-use Rattle.task_sheets.specs.Layout.{task_verdict}
 use Rattle.task_sheets.specs.Content as task
-use Rattle.task_sheets.specs.Opened.{bytes_of}
-use Rattle.book_sheets.specs.declared.book_sheet.BookSheet.{BookSheet}
-use Rattle.task_sheets.specs.declared.task_sheet.TaskSheet.{TaskSheet}
 use Rattle.checks.specs.declared.fault.PlanFault.{PlanFault}
-use Rattle.checks.specs.Bytes.{Unless}
+pub use Rattle.checks.specs.Bytes.{Opens, Says}
 use Rattle.cards.specs.declared.fault.RunFault.{RunFault}
 use Rattle.cards.specs.declared.fault.RunFault.TheVariants.{Plan}
 use Rattle.recasts.specs.Recasts.{Recasts}
 use Rattle.listings.specs.Listings.{book_in, task_in}
-
--- both sheets open; or the book's is refused, or else the task's, and that fault is answered whole
-abbrev pub Opens : List ℕ → List ℕ → Result (Unit {0}) PlanFault → Type 0
-Opens bs ts r = Unless (verdict_on Book (book_verdict bs)) r (Unless (verdict_on Task (task_verdict ts)) r (r ≡ Ok tt))
-
--- the sheets read these bytes
-pub record Says (bs ts : List ℕ) (b : BookSheet) (t : TaskSheet) : Type 0 where
-  pub book : b.bytes.now ≡ bs
-  pub task : bytes_of t ≡ ts
 
 -- a sheet that is refused gives that refusal, and then nothing has changed; else the answer is as P says
 abbrev pub Past : {X : Type 0} → Result (Unit {0}) PlanFault → Result X RunFault → Type 0 → Type 0 → Type 0

@@ -1,4 +1,4 @@
-ghost use Rattle.std.specs.Prelude.{◌≡◌, ℕ, ◌<◌, ◌≤◌, true, ◌&&◌, length, MatchOption, nat_lt, slice_index_or};
+ghost use Rattle.std.specs.Prelude.{◌≡◌, ℕ, ◌<◌, ◌≤◌, true, ◌&&◌, length, take, MatchOption, nat_lt, slice_index_or};
 ghost use Rattle.checks.specs.Rows.{marked};
 ghost use Rattle.checks.specs.Tables.{blank};
 
@@ -48,11 +48,14 @@ impl Arrangement {
     pub fn place(&self, u: usize) -> Option<Place>
         ensures { MatchOption result (self.now.count ≤ u) (λ p. (u < self.now.count) × (p ≡ slice_index_or self.now.places u blank)) }
     {
-        if u < self.count {
-            Some(self.places[u])
-        } else {
-            None
-        }
+        self.places().get(u).copied()
+    }
+
+    // The places in order, exactly those that are there.
+    pub fn places(&self) -> &[Place]
+        ensures { result.now ≡ take self.now.count self.now.places }
+    {
+        &self.places[..self.count]
     }
 
     // Whether place `u` precedes place `v`; a place that is not there precedes nothing and is preceded by nothing.

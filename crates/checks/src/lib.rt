@@ -14,5 +14,5 @@ pub mod reading;
 pub use arrangement::{Arrangement, Place};
 pub use checking::{arrange, check};
 pub use fault::PlanFault;
-pub use opening::check_bytes;
+pub use opening::{check_bytes, open_both};
 pub use reading::part_set;
