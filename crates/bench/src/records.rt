@@ -7,14 +7,14 @@ ghost use Rattle.bench.specs.Records.{eight, word_bytes, bytes_of_reply, code_of
 use boards::Board;
 use cards::{Reply, RunFault, State};
 use facts::FactSet;
-use sheets::writing::put_bytes;
+use sheets::writing::{put, put_bytes};
 
 // Writes a number in eight bytes at `at`, the highest byte first, and answers the place behind them.
 pub(crate) fn put_number(out: &mut [u8], at: usize, n: usize) -> usize
     requires { at + 8 ≤ length out.old }
     ensures { Wrote out.old at (eight n) out.new result }
 {
-    put_bytes(out, at, &u64::to_be_bytes(n as u64))
+    put(out, at, n as u64)
 }
 
 // Writes a set of facts in 128 bytes at `at`, fact p as bit p % 8 of byte p / 8, and answers the place behind them.

@@ -8,7 +8,7 @@ use crate::records::{put_facts, put_number};
 use checks::PlanFault;
 use facts::FactSet;
 use sheets::Sheet;
-use sheets::writing::put_u8;
+use sheets::writing::put;
 
 // The shortest buffer for a report.
 pub(crate) const ROOM: usize = 160;
@@ -18,7 +18,7 @@ pub(crate) fn put_accepted(out: &mut [u8], facts: FactSet) -> usize
     requires { 160 ≤ length out.old }
     ensures { Wrote out.old 0 (0 ∷ word_bytes facts.words) out.new result }
 {
-    let at = put_u8(out, 0, 0);
+    let at = put(out, 0, 0u8);
     put_facts(out, at, facts)
 }
 
@@ -46,10 +46,10 @@ pub(crate) fn put_refused(out: &mut [u8], fault: PlanFault) -> usize
     requires { 160 ≤ length out.old }
     ensures { Wrote out.old 0 (refused_bytes fault) out.new result }
 {
-    let at = put_u8(out, 0, fault.number());
+    let at = put(out, 0, fault.number());
     match fault {
         PlanFault::Sheet(fault) => {
-            let at = put_u8(out, at, sheet_code(fault.sheet));
+            let at = put(out, at, sheet_code(fault.sheet));
             put_number(out, at, fault.place)
         }
         PlanFault::Mismatch => at,

@@ -11,7 +11,7 @@ use boards::Board;
 use book_sheets::BookSheet;
 use books::Book;
 use cards::{Attempt, Card, Event, Request, RunFault, issue, reply};
-use sheets::fields::get_u16;
+use sheets::fields::get;
 use task_sheets::TaskSheet;
 
 // The bytes of a request: what is asked (0 begin, 1 finish, 2 put back, else a look), and the place in two bytes.
@@ -25,7 +25,7 @@ fn request_at(script: &[u8], at: usize) -> Request
     requires { at + 3 ≤ length script.now }
     ensures { result ≡ request_in script.now at }
 {
-    let place = get_u16(script, at + 1) as usize;
+    let place = get::<u16>(script, at + 1) as usize;
     let event = match script[at] {
         0 => Event::Begin,
         1 => Event::Finish,

@@ -9,7 +9,7 @@ ghost use Rattle.book_sheets.specs.Reading.{Row, NoRow, Holds};
 
 use crate::checks::check_book_sheet;
 use books::Book;
-use sheets::fields::{get_u16, get_u32};
+use sheets::fields::get;
 use sheets::lists::list_has;
 use sheets::{Sheet, SheetFault};
 
@@ -66,7 +66,7 @@ impl<'a> BookSheet<'a> {
     fn row(&self, a: usize) -> Option<usize>
         ensures { MatchOption result (NoRow self.now.bytes.now a) (λ at. Row self.now.bytes.now a at) }
     {
-        if a < get_u16(self.bytes, 2) as usize {
+        if a < get::<u16>(self.bytes, 2) as usize {
             Some(12 + 11 * a)
         } else {
             None
@@ -81,7 +81,7 @@ impl<'a> BookSheet<'a> {
     {
         match self.row(a) {
             Some(row) => {
-                let at = get_u32(self.bytes, row) as usize;
+                let at = get::<u32>(self.bytes, row) as usize;
                 let needs = self.bytes[row + 8] as usize;
                 let adds = self.bytes[row + 9] as usize;
                 let deletes = self.bytes[row + 10] as usize;
@@ -128,11 +128,11 @@ impl Book for BookSheet<'_> {
     ghost lawful = { λ s. lawful_shown (model_of (content s.bytes.now)) s.lawful };
 
     fn facts(&self) -> usize {
-        get_u16(self.bytes, 0) as usize
+        get::<u16>(self.bytes, 0) as usize
     }
 
     fn steps(&self) -> usize {
-        get_u16(self.bytes, 2) as usize
+        get::<u16>(self.bytes, 2) as usize
     }
 
     fn needs(&self, a: usize, p: usize) -> bool {
@@ -152,7 +152,7 @@ impl Book for BookSheet<'_> {
 
     fn seconds(&self, a: usize) -> u32 {
         match self.row(a) {
-            Some(row) => get_u32(self.bytes, row + 4),
+            Some(row) => get::<u32>(self.bytes, row + 4),
             None => 0,
         }
     }

@@ -4,7 +4,7 @@ ghost use Rattle.sheets.specs.Lists.{Rising};
 ghost use Rattle.sheets.specs.Verdicts.{Gives, up_to};
 ghost use Rattle.book_sheets.specs.Layout.{header, row, row_at, rows, deleted, lists, lists_at, step_lists, book_verdict};
 
-use sheets::fields::{begins_at, stands, u8_at, u16_at, u32_at, within};
+use sheets::fields::{begins_at, field_at, stands, within};
 use sheets::lists::{check_entry, check_list, list_has};
 use sheets::{Refusal, Refused};
 
@@ -19,9 +19,9 @@ struct Header {
 fn read_header(bytes: &[u8]) -> Result<Header, Refused>
     ensures { Gives result (header bytes.now) (λ h. (12 ≤ length bytes.now) × (h.facts ≡ be16 bytes.now 0) × (h.steps ≡ be16 bytes.now 2) × (h.steps ≤ 512)) }
 {
-    let facts = u16_at(bytes, 0)?;
+    let facts = field_at::<u16>(bytes, 0)?;
     within(facts as u32, 1024, 0)?;
-    let steps = u16_at(bytes, 2)?;
+    let steps = field_at::<u16>(bytes, 2)?;
     within(steps as u32, 512, 2)?;
     stands(bytes, 4, 4)?;
     stands(bytes, 8, 4)?;
@@ -34,13 +34,13 @@ fn check_row(bytes: &[u8], at: usize) -> Result<(), Refused>
     ensures { Gives result (row bytes.now at) (λ _. at + 11 ≤ length bytes.now) }
 {
     stands(bytes, at, 4)?;
-    let seconds = u32_at(bytes, at + 4)?;
+    let seconds = field_at::<u32>(bytes, at + 4)?;
     within(seconds, 1000000, at + 4)?;
-    let needs = u8_at(bytes, at + 8)?;
+    let needs = field_at::<u8>(bytes, at + 8)?;
     within(needs as u32, 250, at + 8)?;
-    let adds = u8_at(bytes, at + 9)?;
+    let adds = field_at::<u8>(bytes, at + 9)?;
     within(adds as u32, 250, at + 9)?;
-    let deletes = u8_at(bytes, at + 10)?;
+    let deletes = field_at::<u8>(bytes, at + 10)?;
     within(deletes as u32, 250, at + 10)?;
     Ok(())
 }

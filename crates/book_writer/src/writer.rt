@@ -7,7 +7,7 @@ ghost use Rattle.book_writer.specs.Writing.{bytes_of, Writes, Means, Again};
 
 use books::Book;
 use sheets::TooShort;
-use sheets::writing::{put_bytes, put_u16, put_u32};
+use sheets::writing::{put, put_bytes};
 
 // How a fact may stand to a step.
 #[derive(Clone, Copy)]
@@ -91,10 +91,10 @@ fn put_header<B: Book>(out: &mut [u8], at: usize, book: &B) -> usize
     ensures { Wrote out.old at (header_of (B.model book.now)) out.new result }
 {
     let steps = book.steps();
-    let at = put_u16(out, at, book.facts() as u16);
-    let at = put_u16(out, at, steps as u16);
-    let at = put_u32(out, at, 12);
-    put_u32(out, at, (12 + 11 * steps) as u32)
+    let at = put(out, at, book.facts() as u16);
+    let at = put(out, at, steps as u16);
+    let at = put(out, at, 12u32);
+    put(out, at, (12 + 11 * steps) as u32)
 }
 
 // Writes the row of a step whose lists begin at byte `lists`, and answers the place behind it.
@@ -102,8 +102,8 @@ fn put_row(out: &mut [u8], at: usize, lists: u32, seconds: u32, sizes: Sizes) ->
     requires { at + 11 ≤ length out.old }
     ensures { Wrote out.old at (four lists ++ (four seconds ++ (sizes.needs ∷ sizes.adds ∷ sizes.deletes ∷ []))) out.new result }
 {
-    let at = put_u32(out, at, lists);
-    let at = put_u32(out, at, seconds);
+    let at = put(out, at, lists);
+    let at = put(out, at, seconds);
     put_bytes(out, at, &[sizes.needs, sizes.adds, sizes.deletes])
 }
 
@@ -132,7 +132,7 @@ fn put_related<B: Book>(out: &mut [u8], at: usize, book: &B, relation: Relation,
     let mut place = at;
     for p in 0..facts {
         if is_related(book, relation, a, p) {
-            place = put_u16(out, place, p as u16);
+            place = put(out, place, p as u16);
         }
     }
     place

@@ -8,7 +8,7 @@ ghost use Rattle.task_sheets.specs.Parts.{list_of, part_numbers};
 ghost use Rattle.recasts.specs.Headers.{header_bytes, HeaderOf};
 
 use sheets::TooShort;
-use sheets::writing::{put_bytes, put_u16, put_u32};
+use sheets::writing::{put, put_bytes};
 use task_sheets::{Part, TaskSheet};
 
 // The header of a task sheet: how many facts, steps, levels and steps in all levels there are, and where the goal and
@@ -69,13 +69,13 @@ pub(crate) fn put_header(out: &mut [u8], at: usize, header: Header) -> usize
     requires { at + 20 ≤ length out.old }
     ensures { Wrote out.old at (header_bytes header) out.new result }
 {
-    let at = put_u16(out, at, header.facts);
-    let at = put_u16(out, at, header.steps);
-    let at = put_u16(out, at, header.levels);
-    let at = put_u16(out, at, header.total);
-    let at = put_u32(out, at, 20);
-    let at = put_u32(out, at, header.goal);
-    put_u32(out, at, header.plan)
+    let at = put(out, at, header.facts);
+    let at = put(out, at, header.steps);
+    let at = put(out, at, header.levels);
+    let at = put(out, at, header.total);
+    let at = put(out, at, 20u32);
+    let at = put(out, at, header.goal);
+    put(out, at, header.plan)
 }
 
 // A list of the task where it lies, its count included; the list of no numbers where there is no such part.

@@ -7,7 +7,7 @@ ghost use Rattle.sheets.specs.Writing.{Wrote};
 ghost use Rattle.task_sheets.specs.Content.{list_bytes};
 
 use facts::StepSet;
-use sheets::writing::put_u16;
+use sheets::writing::put;
 
 // How many steps there are in the set.
 pub(crate) fn size_of(set: &StepSet) -> usize
@@ -30,7 +30,7 @@ fn put_step(out: &mut [u8], at: usize, set: &StepSet, a: usize) -> usize
     ensures { Wrote out.old at (if holds set.now.words a then two a else []) out.new result }
 {
     if set.contains(a) {
-        put_u16(out, at, a as u16)
+        put(out, at, a as u16)
     } else {
         at
     }
@@ -53,6 +53,6 @@ pub(crate) fn put_set(out: &mut [u8], at: usize, set: &StepSet) -> usize
     requires { at + 2 + 2 * length (members (holds set.now.words) 512) ≤ length out.old }
     ensures { Wrote out.old at (list_bytes (members (holds set.now.words) 512)) out.new result }
 {
-    let at = put_u16(out, at, size_of(set) as u16);
+    let at = put(out, at, size_of(set) as u16);
     put_steps(out, at, set)
 }

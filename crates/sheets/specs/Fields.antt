@@ -1,4 +1,4 @@
--- Fields of a sheet: unsigned numbers of one, two or four bytes, the highest byte first.
+-- Fields of a sheet: unsigned numbers of one, two, four or eight bytes, the highest byte first.
 use Rattle.std.specs.Prelude.{ℕ, ◌+◌, ◌*◌, ◌/◌, ◌%◌, List, [], ◌∷◌, ◌++◌, length, ◌==◌, nat_le, slice_index}
 use Rattle.sheets.specs.declared.fault.Refusal.TheVariants.{Short, OverLimit, Misplaced}
 use Rattle.sheets.specs.Verdicts.{Verdict, must}
@@ -16,6 +16,14 @@ two n = n / 256 ∷ n % 256 ∷ []
 
 abbrev pub four : ℕ → List ℕ
 four n = n / 16777216 ∷ n / 65536 % 256 ∷ n / 256 % 256 ∷ n % 256 ∷ []
+
+-- the same of eight bytes
+abbrev pub be64 : List ℕ → ℕ → ℕ
+be64 xs i = be32 xs i * 4294967296 + be32 xs (i + 4)
+
+abbrev pub eight : ℕ → List ℕ
+eight n =
+    n / 72057594037927936 ∷ n / 281474976710656 % 256 ∷ n / 1099511627776 % 256 ∷ n / 4294967296 % 256 ∷ n / 16777216 % 256 ∷ n / 65536 % 256 ∷ n / 256 % 256 ∷ n % 256 ∷ []
 
 -- two bytes for each number of a list
 abbrev pub twos : List ℕ → List ℕ

@@ -1,6 +1,7 @@
 pub mod Faults
 pub mod Verdicts
 pub mod Fields
+pub mod FieldBytes
 pub mod Lists
 pub mod Writing
 pub mod FaultText

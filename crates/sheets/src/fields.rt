@@ -1,8 +1,9 @@
-ghost use Rattle.std.specs.Prelude.{◌≡◌, ◌+◌, ◌<◌, ◌≤◌, length, slice_index};
-ghost use Rattle.sheets.specs.Fields.{be16, be32, field, limit, offset};
+ghost use Rattle.std.specs.Prelude.{◌≡◌, ◌+◌, ◌<◌, ◌≤◌, length};
+ghost use Rattle.sheets.specs.Fields.{field, limit, offset};
 ghost use Rattle.sheets.specs.Verdicts.{Gives};
 
 use crate::fault::{Refusal, Refused};
+use crate::field::Field;
 
 // Whether a field of `width` bytes at `at` stands whole in the sheet.
 pub fn stands(bytes: &[u8], at: usize, width: usize) -> Result<(), Refused>
@@ -18,28 +19,12 @@ pub fn stands(bytes: &[u8], at: usize, width: usize) -> Result<(), Refused>
     }
 }
 
-// The one-byte number at `at`.
-pub fn u8_at(bytes: &[u8], at: usize) -> Result<u8, Refused>
-    ensures { Gives result (field bytes.now at 1) (λ v. (at + 1 ≤ length bytes.now) × (v ≡ slice_index bytes.now at)) }
+// The number at `at`.
+pub fn field_at<T: Field>(bytes: &[u8], at: usize) -> Result<T, Refused>
+    ensures { Gives result (field bytes.now at T.WIDTH) (λ v. (at + T.WIDTH ≤ length bytes.now) × (v ≡ T.says bytes.now at)) }
 {
-    stands(bytes, at, 1)?;
-    Ok(bytes[at])
-}
-
-// The two-byte number at `at`.
-pub fn u16_at(bytes: &[u8], at: usize) -> Result<u16, Refused>
-    ensures { Gives result (field bytes.now at 2) (λ v. (at + 2 ≤ length bytes.now) × (v ≡ be16 bytes.now at)) }
-{
-    stands(bytes, at, 2)?;
-    Ok(get_u16(bytes, at))
-}
-
-// The four-byte number at `at`.
-pub fn u32_at(bytes: &[u8], at: usize) -> Result<u32, Refused>
-    ensures { Gives result (field bytes.now at 4) (λ v. (at + 4 ≤ length bytes.now) × (v ≡ be32 bytes.now at)) }
-{
-    stands(bytes, at, 4)?;
-    Ok(get_u32(bytes, at))
+    stands(bytes, at, T::WIDTH)?;
+    Ok(get(bytes, at))
 }
 
 // Whether the number read at `at` keeps its limit.
@@ -61,7 +46,7 @@ pub fn begins_at(bytes: &[u8], at: usize, begins: usize) -> Result<(), Refused>
     requires { at + 4 ≤ length bytes.now }
     ensures { result ≡ offset bytes.now at begins }
 {
-    if get_u32(bytes, at) as usize == begins {
+    if get::<u32>(bytes, at) as usize == begins {
         Ok(())
     } else {
         Err(Refused {
@@ -71,18 +56,10 @@ pub fn begins_at(bytes: &[u8], at: usize, begins: usize) -> Result<(), Refused>
     }
 }
 
-// The two-byte number at `at`, which the sheet is known to hold.
-pub fn get_u16(bytes: &[u8], at: usize) -> u16
-    requires { at + 2 ≤ length bytes.now }
-    ensures { result ≡ be16 bytes.now at }
+// The number at `at`, which the sheet is known to hold.
+pub fn get<T: Field>(bytes: &[u8], at: usize) -> T
+    requires { at + T.WIDTH ≤ length bytes.now }
+    ensures { result ≡ T.says bytes.now at }
 {
-    u16::from_be_bytes([bytes[at], bytes[at + 1]])
-}
-
-// The four-byte number at `at`, which the sheet is known to hold.
-pub fn get_u32(bytes: &[u8], at: usize) -> u32
-    requires { at + 4 ≤ length bytes.now }
-    ensures { result ≡ be32 bytes.now at }
-{
-    u32::from_be_bytes([bytes[at], bytes[at + 1], bytes[at + 2], bytes[at + 3]])
+    T::read(bytes, at)
 }

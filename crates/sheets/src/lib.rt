@@ -3,6 +3,7 @@
 
 pub mod fault;
 pub mod fault_text;
+pub mod field;
 pub mod fields;
 pub mod laws;
 pub mod lists;
@@ -10,5 +11,6 @@ pub mod writer;
 pub mod writing;
 
 pub use fault::{Refusal, Refused, Sheet, SheetFault};
+pub use field::Field;
 pub use writer::Writer;
 pub use writing::TooShort;

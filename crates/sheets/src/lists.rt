@@ -4,7 +4,7 @@ ghost use Rattle.sheets.specs.Lists.{entry, entries, among, Rising};
 ghost use Rattle.sheets.specs.Verdicts.{Gives};
 
 use crate::fault::{Refusal, Refused};
-use crate::fields::{get_u16, u16_at};
+use crate::fields::{field_at, get};
 
 // Entry `j` of the list at `at`, if it is right.
 pub fn check_entry(bytes: &[u8], bound: u16, at: usize, j: usize) -> Result<u16, Refused>
@@ -12,14 +12,14 @@ pub fn check_entry(bytes: &[u8], bound: u16, at: usize, j: usize) -> Result<u16,
     ensures { Gives result (entry bytes.now bound at j) (λ p. (at + 2 * j + 2 ≤ length bytes.now) × (p ≡ be16 bytes.now (at + 2 * j))) }
 {
     let place = at + 2 * j;
-    let p = u16_at(bytes, place)?;
+    let p = field_at::<u16>(bytes, place)?;
     if p >= bound {
         return Err(Refused {
             refusal: Refusal::OutOfRange,
             place,
         });
     }
-    if j > 0 && get_u16(bytes, place - 2) >= p {
+    if j > 0 && get::<u16>(bytes, place - 2) >= p {
         return Err(Refused {
             refusal: Refusal::NotAbove,
             place,
@@ -49,7 +49,7 @@ pub fn list_has(bytes: &[u8], at: usize, n: usize, p: usize) -> bool
     let mut high = n;
     while low < high {
         let middle = low + (high - low) / 2;
-        let q = get_u16(bytes, at + 2 * middle) as usize;
+        let q = get::<u16>(bytes, at + 2 * middle) as usize;
         if q == p {
             return true;
         }

@@ -3,7 +3,7 @@ ghost use Rattle.sheets.specs.Fields.{be16};
 ghost use Rattle.sheets.specs.Verdicts.{Gives};
 ghost use Rattle.task_sheets.specs.Layout.{header, past, level_begins_at, steps_before, placed, level, levels, task_verdict};
 
-use sheets::fields::{begins_at, u16_at, u32_at, within};
+use sheets::fields::{begins_at, field_at, within};
 use sheets::lists::check_list;
 use sheets::{Refusal, Refused};
 
@@ -27,17 +27,17 @@ struct Reached {
 fn read_header(bytes: &[u8]) -> Result<Header, Refused>
     ensures { Gives result (header bytes.now) (λ h. (20 ≤ length bytes.now) × (h.facts ≡ be16 bytes.now 0) × (h.steps ≡ be16 bytes.now 2) × (h.levels ≡ be16 bytes.now 4) × (h.total ≡ be16 bytes.now 6) × (h.total ≤ 256)) }
 {
-    let facts = u16_at(bytes, 0)?;
+    let facts = field_at::<u16>(bytes, 0)?;
     within(facts as u32, 1024, 0)?;
-    let steps = u16_at(bytes, 2)?;
+    let steps = field_at::<u16>(bytes, 2)?;
     within(steps as u32, 512, 2)?;
-    let levels = u16_at(bytes, 4)?;
+    let levels = field_at::<u16>(bytes, 4)?;
     within(levels as u32, 256, 4)?;
-    let total = u16_at(bytes, 6)?;
+    let total = field_at::<u16>(bytes, 6)?;
     within(total as u32, 256, 6)?;
-    let _start = u32_at(bytes, 8)?;
-    let _goal = u32_at(bytes, 12)?;
-    let _plan = u32_at(bytes, 16)?;
+    let _start = field_at::<u32>(bytes, 8)?;
+    let _goal = field_at::<u32>(bytes, 12)?;
+    let _plan = field_at::<u32>(bytes, 16)?;
     Ok(Header {
         facts,
         steps,
@@ -53,7 +53,7 @@ fn check_placed(bytes: &[u8], field: usize, bound: u16, at: usize) -> Result<usi
     ensures { Gives result (placed bytes.now field bound at) (λ q. (q ≡ past bytes.now at) × (q ≤ length bytes.now)) }
 {
     begins_at(bytes, field, at)?;
-    let n = u16_at(bytes, at)? as usize;
+    let n = field_at::<u16>(bytes, at)? as usize;
     check_list(bytes, bound, at + 2, n)?;
     Ok(at + 2 + 2 * n)
 }
@@ -64,7 +64,7 @@ fn check_level(bytes: &[u8], bound: u16, most: u16, from: Reached) -> Result<Rea
     requires steps_le_most { from.steps ≤ most }
     ensures { Gives result (level bytes.now bound most from.steps from.at) (λ q. (q.at ≡ past bytes.now from.at) × (q.at ≤ length bytes.now) × (q.steps ≡ from.steps + be16 bytes.now from.at) × (q.steps ≤ most)) }
 {
-    let n = u16_at(bytes, from.at)? as usize;
+    let n = field_at::<u16>(bytes, from.at)? as usize;
     if n == 0 {
         return Err(Refused {
             refusal: Refusal::EmptyLevel,

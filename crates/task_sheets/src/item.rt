@@ -2,7 +2,7 @@ ghost use Rattle.std.specs.Prelude.{◌≡◌};
 ghost use Rattle.task_sheets.specs.Parts.{numbers_of, item_bytes, part_numbers};
 
 use crate::numbers::Numbers;
-use sheets::fields::get_u16;
+use sheets::fields::get;
 
 // What a task sheet is asked for; levels go by their numbers from 1.
 #[derive(Clone, Copy, PartialEq, Eq, Debug)]
@@ -40,7 +40,7 @@ impl<'a> Item<'a> {
         if part.len() < 2 {
             return Numbers::new(&[]);
         }
-        let count = get_u16(part, 0) as usize;
+        let count = get::<u16>(part, 0) as usize;
         let n = count.min((part.len() - 2) / 2);
         Numbers::new(&part[2..2 + 2 * n])
     }

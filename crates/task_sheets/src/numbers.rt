@@ -1,7 +1,7 @@
 ghost use Rattle.std.specs.Prelude.{◌≡◌, length};
 ghost use Rattle.task_sheets.specs.Parts.{numbers_in, numbers_of, Picked};
 
-use sheets::fields::get_u16;
+use sheets::fields::get;
 
 // Numbers of a list, read where they lie: two bytes to each, the highest first.
 #[derive(Clone, Copy)]
@@ -29,7 +29,7 @@ impl<'a> Numbers<'a> {
         ensures { Picked (numbers_of self.now) j result }
     {
         if j < self.len() {
-            Some(get_u16(self.bytes, 2 * j) as usize)
+            Some(get::<u16>(self.bytes, 2 * j) as usize)
         } else {
             None
         }

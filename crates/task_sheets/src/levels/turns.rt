@@ -5,7 +5,7 @@ ghost use Rattle.task_sheets.specs.Opened.{rest, Turn};
 
 use super::Levels;
 use crate::numbers::Numbers;
-use sheets::fields::get_u16;
+use sheets::fields::get;
 
 impl<'a> Levels<'a> {
     // So many levels, of which the first begins at `at`.
@@ -31,7 +31,7 @@ impl<'a> Levels<'a> {
             return None;
         }
         let begin = self.at + 2;
-        let end = begin + 2 * get_u16(self.bytes, self.at) as usize;
+        let end = begin + 2 * get::<u16>(self.bytes, self.at) as usize;
         self.at = end;
         self.left -= 1;
         Some(Numbers::new(&self.bytes[begin..end]))

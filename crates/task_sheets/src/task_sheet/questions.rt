@@ -9,7 +9,7 @@ ghost use Rattle.task_sheets.specs.Opened.{bytes_of, task_of, rest};
 use super::TaskSheet;
 use crate::item::{Item, Part};
 use crate::levels::Levels;
-use sheets::fields::{get_u16, get_u32};
+use sheets::fields::get;
 
 impl<'a> TaskSheet<'a> {
     // Whether the sheet was opened.
@@ -24,7 +24,7 @@ impl<'a> TaskSheet<'a> {
         ensures says { result ≡ (task_of self.now).facts }
         ensures few { result ≤ 1024 }
     {
-        get_u16(self.bytes, 0) as usize
+        get::<u16>(self.bytes, 0) as usize
     }
 
     // How many steps the task speaks of.
@@ -32,7 +32,7 @@ impl<'a> TaskSheet<'a> {
         ensures says { result ≡ (task_of self.now).steps }
         ensures few { result ≤ 512 }
     {
-        get_u16(self.bytes, 2) as usize
+        get::<u16>(self.bytes, 2) as usize
     }
 
     // How many levels the plan has.
@@ -40,7 +40,7 @@ impl<'a> TaskSheet<'a> {
         ensures says { result ≡ length (task_of self.now).levels }
         ensures few { result ≤ 256 }
     {
-        get_u16(self.bytes, 4) as usize
+        get::<u16>(self.bytes, 4) as usize
     }
 
     // How many steps all levels have.
@@ -48,7 +48,7 @@ impl<'a> TaskSheet<'a> {
         ensures says { result ≡ total (task_of self.now).levels }
         ensures few { result ≤ 256 }
     {
-        get_u16(self.bytes, 6) as usize
+        get::<u16>(self.bytes, 6) as usize
     }
 
     // A part of the sheet, its count included, if the sheet was opened and has it.
@@ -61,7 +61,7 @@ impl<'a> TaskSheet<'a> {
         }
         match which {
             Part::Start => Some(Item::Start(self.part(20))),
-            Part::Goal => Some(Item::Goal(self.part(get_u32(self.bytes, 12) as usize))),
+            Part::Goal => Some(Item::Goal(self.part(get::<u32>(self.bytes, 12) as usize))),
             Part::Level(n) => {
                 let most = self.levels();
                 if n == 0 || n > most {
@@ -76,7 +76,7 @@ impl<'a> TaskSheet<'a> {
     pub fn levels_in_turn(&self) -> Levels<'a>
         ensures { rest result ≡ (task_of self.now).levels }
     {
-        Levels::over(self.bytes, get_u32(self.bytes, 16) as usize, self.levels())
+        Levels::over(self.bytes, get::<u32>(self.bytes, 16) as usize, self.levels())
     }
 
     // Where level `i` begins, the first being level 0 here.
@@ -84,7 +84,7 @@ impl<'a> TaskSheet<'a> {
         requires { i < be16 (bytes_of self.now) 4 }
         ensures { result ≡ level_begins_at (bytes_of self.now) i }
     {
-        let mut at = get_u32(self.bytes, 16) as usize;
+        let mut at = get::<u32>(self.bytes, 16) as usize;
         for _k in 0..i {
             at = list_end(self.bytes, at);
         }
@@ -105,5 +105,5 @@ fn list_end(bytes: &[u8], at: usize) -> usize
     requires { past bytes.now at ≤ length bytes.now }
     ensures { result ≡ past bytes.now at }
 {
-    at + 2 + 2 * get_u16(bytes, at) as usize
+    at + 2 + 2 * get::<u16>(bytes, at) as usize
 }

@@ -3,4 +3,4 @@ use Rattle.sheets.proofs.Buffers.{wrote_on}
 use Rattle.bench.proofs.reports.put_accepted.Goals as goal
 
 pub returns : goal.returns
-returns c = wrote_on (omega arith) c.put_u8-at.ensures c.put_facts.ensures.bytes
+returns c = wrote_on (omega arith) c.put-at.ensures c.put_facts.ensures.bytes

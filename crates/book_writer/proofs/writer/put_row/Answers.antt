@@ -5,4 +5,4 @@ use Rattle.book_writer.proofs.writer.put_row.Goals as goal
 pub returns : goal.returns
 returns c =
     let h : c.args.at ≤ length c.args.out.now = omega arith in
-    wrote_on h (wrote_on h c.put_u32-at.ensures c.put_u32-at-2.ensures) c.put_bytes.ensures
+    wrote_on h (wrote_on h c.put-at.ensures c.put-at-2.ensures) c.put_bytes.ensures

@@ -6,4 +6,4 @@ use Rattle.recasts.proofs.sets.put_set.Goals as goal
 pub returns : goal.returns
 returns c =
     let h : c.args.at ≤ length c.args.out.now = omega arith in
-    wrote_on h (wrote_as (ap two c.size_of.ensures.is) c.put_u16-at.ensures) c.put_steps.ensures
+    wrote_on h (wrote_as (ap two c.size_of.ensures.is) c.put-at.ensures) c.put_steps.ensures

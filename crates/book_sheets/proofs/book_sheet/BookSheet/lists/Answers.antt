@@ -6,8 +6,8 @@ returns-in-Some c =
     let s = c.args.self.now in
     let row = c.in-Some.row in
     let h = c.in-Some.ensures in
-    let at = c.get_u32-at.result in
-    let e = c.get_u32-at.ensures in
+    let at = c.get-at.result in
+    let e = c.get-at.ensures in
     record {
       needs = needs_read s.bytes.now s.ok c.args.a row at h e;
       adds = adds_read s.bytes.now s.ok c.args.a row at h e;

@@ -5,4 +5,4 @@ use Rattle.book_sheets.proofs.book_sheet.BookSheetBook.steps.Goals as goal
 
 pub returns : goal.returns
 returns c =
-    let xs = c.args.self.now.bytes.now in c.get_u16.ensures ∙ sym (length_steps_from xs 0 (be16 xs 2))
+    let xs = c.args.self.now.bytes.now in c.get.ensures ∙ sym (length_steps_from xs 0 (be16 xs 2))

@@ -9,5 +9,5 @@ returns c =
     let bs = c.bytes-part.result.now in
     let n = c.min-n.result in
     c.new-2.ensures ∙ numbers_part bs 2 n (2 + 2 * n) refl (omega arith)
-    ∙ ap (numbers_at bs 2) (c.min-n.ensures ∙ ap (λ v. min v ((length bs - 2) / 2)) c.get_u16-count.ensures)
+    ∙ ap (numbers_at bs 2) (c.min-n.ensures ∙ ap (λ v. min v ((length bs - 2) / 2)) c.get-count.ensures)
     ∙ ap part_numbers c.bytes-part.ensures

@@ -5,8 +5,8 @@ use Rattle.task_sheets.proofs.numbers.Numbers.get.Goals as goal
 pub overflow_mul-j : goal.overflow_mul-j
 overflow_mul-j c = omega (arith, length_numbers_in c.args.self.now.bytes.now)
 
-pub get_u16-requires : goal.get_u16-requires
-get_u16-requires c = omega (arith, length_numbers_in c.args.self.now.bytes.now)
+pub get-requires : goal.get-requires
+get-requires c = omega (arith, length_numbers_in c.args.self.now.bytes.now)
 
 pub returns-then-j-len : goal.returns-then-j-len
-returns-then-j-len c = picked c.args.self.now.bytes.now c.args.j _ (omega arith) c.get_u16.ensures
+returns-then-j-len c = picked c.args.self.now.bytes.now c.args.j _ (omega arith) c.get.ensures

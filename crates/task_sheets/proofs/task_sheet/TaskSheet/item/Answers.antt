@@ -10,7 +10,7 @@ pub part-requires-in-Goal : goal.part-requires-in-Goal
 part-requires-in-Goal c =
     let xs = c.args.self.now.bytes.now in
     let g = sheet_good xs c.args.self.now.passes in
-    subst (λ v. past xs v ≤ length xs) (sym (c.get_u32.ensures ∙ g.goal_place)) g.goal_list.end
+    subst (λ v. past xs v ≤ length xs) (sym (c.get.ensures ∙ g.goal_place)) g.goal_list.end
 
 pub level_at-requires : goal.level_at-requires
 level_at-requires c =
@@ -42,7 +42,7 @@ pub returns-in-Goal : goal.returns-in-Goal
 returns-in-Goal c =
     let xs = c.args.self.now.bytes.now in
     let g = sheet_good xs c.args.self.now.passes in
-    let e = goal_lies xs c.part-in-Goal.result.now c.get_u32.result (c.get_u32.ensures ∙ g.goal_place) c.part-in-Goal.ensures in
+    let e = goal_lies xs c.part-in-Goal.result.now c.get.result (c.get.ensures ∙ g.goal_place) c.part-in-Goal.ensures in
     rw (c.in-Goal.is, c.if-not-self.false) (record { lies = (refl, e); says = part_said xs c.part-in-Goal.result.now (goal_at xs) g.goal_list.end e })
 
 pub returns-else-n-most : goal.returns-else-n-most

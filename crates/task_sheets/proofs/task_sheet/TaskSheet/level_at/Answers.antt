@@ -17,4 +17,4 @@ loop-k-preserved c =
 pub loop-k-init : goal.loop-k-init
 loop-k-init c =
     let xs = c.args.self.now.bytes.now in
-    c.get_u32-at.ensures ∙ (sheet_good xs c.args.self.now.passes).plan_place
+    c.get-at.ensures ∙ (sheet_good xs c.args.self.now.passes).plan_place

@@ -8,5 +8,5 @@ use Rattle.task_sheets.proofs.task_sheet.TaskSheet.levels.Goals as goal
 pub returns : goal.returns
 returns c =
     let xs = c.args.self.now.bytes.now in
-    let e = c.get_u16.ensures ∙ sym (length_levels_from xs (level_begins_at xs 0) (be16 xs 4)) in
+    let e = c.get.ensures ∙ sym (length_levels_from xs (level_begins_at xs 0) (be16 xs 4)) in
     record { says = e; few = omega (arith, e, (sheet_lawful c.args.self.now).few_levels) }

@@ -11,11 +11,11 @@ over-requires c =
     let xs = c.args.self.now.bytes.now in
     let g = sheet_good xs c.args.self.now.passes in
     let n = c.levels.ensures.says ∙ length_levels_from xs (level_begins_at xs 0) (be16 xs 4) in
-    ap (λ v. fits xs v c.levels.result) (c.get_u32.ensures ∙ g.plan_place) ∙ ap (fits xs (level_begins_at xs 0)) n ∙ levels_fit xs g
+    ap (λ v. fits xs v c.levels.result) (c.get.ensures ∙ g.plan_place) ∙ ap (fits xs (level_begins_at xs 0)) n ∙ levels_fit xs g
 
 pub returns : goal.returns
 returns c =
     let xs = c.args.self.now.bytes.now in
     let g = sheet_good xs c.args.self.now.passes in
     let n = c.levels.ensures.says ∙ length_levels_from xs (level_begins_at xs 0) (be16 xs 4) in
-    c.over.ensures ∙ ap (λ v. levels_from xs v c.levels.result) (c.get_u32.ensures ∙ g.plan_place) ∙ ap (levels_from xs (level_begins_at xs 0)) n
+    c.over.ensures ∙ ap (λ v. levels_from xs v c.levels.result) (c.get.ensures ∙ g.plan_place) ∙ ap (levels_from xs (level_begins_at xs 0)) n

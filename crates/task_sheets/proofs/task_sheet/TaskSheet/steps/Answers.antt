@@ -3,4 +3,4 @@ use Rattle.task_sheets.proofs.Items.{sheet_lawful}
 use Rattle.task_sheets.proofs.task_sheet.TaskSheet.steps.Goals as goal
 
 pub returns : goal.returns
-returns c = record { says = c.get_u16.ensures; few = omega (arith, c.get_u16.ensures, (sheet_lawful c.args.self.now).few_steps) }
+returns c = record { says = c.get.ensures; few = omega (arith, c.get.ensures, (sheet_lawful c.args.self.now).few_steps) }
