@@ -3,22 +3,22 @@
 
 ghost use Rattle.std.specs.Prelude.{◌≡◌, ◌+◌, ◌/◌, ◌%◌, ◌^◌, ◌<◌, ◌≤◌, length, decimal, MatchOption};
 ghost use Rattle.decimals.specs.Numbers.{Decimals};
-ghost use Rattle.decimals.specs.Texts.{Puts};
+ghost use Rattle.decimals.specs.Texts.{PutsText};
 
-use sheets::writing::put_bytes;
+use sheets::Writer;
 
-// Puts the bytes at `at` where the buffer has room for them, and answers the place behind them either way. Short of room,
+// Puts the bytes behind what was put, where the buffer has room for them; the place goes on either way. Short of room,
 // nothing changes.
-pub fn put_text(out: &mut [u8], at: usize, text: &[u8]) -> usize
-    requires { at + length text.now < 2 ^ 64 }
-    ensures puts { Puts out.old at text.now out.new result }
-    ensures kept { length out.old < at + length text.now → out.new ≡ out.old }
+pub fn put_text(writer: &mut Writer, text: &[u8])
+    requires { writer.old.at + length text.now < 2 ^ 64 }
+    ensures puts { PutsText writer.old text.now writer.new }
+    ensures kept { length writer.old.out.now < writer.old.at + length text.now → writer.new.out.now ≡ writer.old.out.now }
 {
-    let next = at + text.len();
-    if next <= out.len() {
-        put_bytes(out, at, text);
+    if writer.has_room(text.len()) {
+        writer.put_bytes(text);
+    } else {
+        writer.skip(text.len());
     }
-    next
 }
 
 // The number without its last digit, if it has more than one.
@@ -35,17 +35,16 @@ fn last_digit(n: usize) -> u8
     48 + (n % 10) as u8
 }
 
-// Puts the decimal digits of a number at `at` where the buffer has room for them, and answers the place behind them
-// either way. Short of room, the first of them may be put alone.
-pub fn put_decimal(out: &mut [u8], at: usize, n: usize) -> usize
-    requires { at + length (decimal n) < 2 ^ 64 }
-    ensures { Puts out.old at (decimal n) out.new result }
+// Puts the decimal digits of a number behind what was put, where the buffer has room for them; the place goes on either
+// way. Short of room, the first of them may be put alone.
+pub fn put_decimal(writer: &mut Writer, n: usize)
+    requires { writer.old.at + length (decimal n) < 2 ^ 64 }
+    ensures { PutsText writer.old (decimal n) writer.new }
 {
-    let Some(rest) = front(n) else {
-        return put_text(out, at, &[last_digit(n)]);
-    };
-    let at = put_decimal(out, at, rest);
-    put_text(out, at, &[last_digit(n)])
+    if let Some(rest) = front(n) {
+        put_decimal(writer, rest);
+    }
+    put_text(writer, &[last_digit(n)]);
 }
 
 // The digits of a number, weighed by powers of ten, give it; they lead with no zero, and no other digits say it.

@@ -1,29 +1,30 @@
-// The lines of a listing, put into a lent buffer.
+// The lines of a listing, put one behind the other where the buffer has room for them; the place goes on either way.
 ghost use Rattle.std.specs.Prelude.{◌+◌, ◌^◌, ◌<◌, ◌≤◌, length};
-ghost use Rattle.decimals.specs.Texts.{Puts};
+ghost use Rattle.decimals.specs.Texts.{PutsText};
 ghost use Rattle.listings.specs.Lines.{entry, newline, head_line, place_line, refused_line};
 
 use decimals::{put_decimal, put_text};
+use sheets::Writer;
 
 // The byte that ends a line.
 const LINE_END: u8 = 10;
 
-// Puts words and the number behind them at `at`, and answers the place behind both.
-fn put_entry(out: &mut [u8], at: usize, words: &[u8], n: usize) -> usize
-    requires { at + length words.now ≤ 2 ^ 32 }
-    ensures puts { Puts out.old at (entry words.now n) out.new result }
-    ensures few { result ≤ at + length words.now + 20 }
+// Puts words and the number behind them.
+fn put_entry(writer: &mut Writer, words: &[u8], n: usize)
+    requires { writer.old.at + length words.now ≤ 2 ^ 32 }
+    ensures puts { PutsText writer.old (entry words.now n) writer.new }
+    ensures few { writer.new.at ≤ writer.old.at + length words.now + 20 }
 {
-    let at = put_text(out, at, words);
-    put_decimal(out, at, n)
+    put_text(writer, words);
+    put_decimal(writer, n);
 }
 
-// Puts the byte that ends a line at `at`, and answers the place behind it.
-fn end_line(out: &mut [u8], at: usize) -> usize
-    requires { at ≤ 2 ^ 32 }
-    ensures { Puts out.old at newline out.new result }
+// Puts the byte that ends a line.
+fn end_line(writer: &mut Writer)
+    requires { writer.old.at ≤ 2 ^ 32 }
+    ensures { PutsText writer.old newline writer.new }
 {
-    put_text(out, at, &[LINE_END])
+    put_text(writer, &[LINE_END]);
 }
 
 // What the first line shows of a plan.
@@ -35,17 +36,17 @@ pub(crate) struct Head {
     pub(crate) seconds: usize,
 }
 
-// Puts the first line at `at`, and answers the place behind it.
-pub(crate) fn put_head(out: &mut [u8], at: usize, head: Head) -> usize
-    requires { at < 2 ^ 31 }
-    ensures puts { Puts out.old at (head_line head.places head.levels head.strata head.seconds) out.new result }
-    ensures few { result ≤ at + 113 }
+// Puts the first line.
+pub(crate) fn put_head(writer: &mut Writer, head: Head)
+    requires { writer.old.at < 2 ^ 31 }
+    ensures puts { PutsText writer.old (head_line head.places head.levels head.strata head.seconds) writer.new }
+    ensures few { writer.new.at ≤ writer.old.at + 113 }
 {
-    let at = put_entry(out, at, b"places ", head.places);
-    let at = put_entry(out, at, b" levels ", head.levels);
-    let at = put_entry(out, at, b" strata ", head.strata);
-    let at = put_entry(out, at, b" seconds ", head.seconds);
-    end_line(out, at)
+    put_entry(writer, b"places ", head.places);
+    put_entry(writer, b" levels ", head.levels);
+    put_entry(writer, b" strata ", head.strata);
+    put_entry(writer, b" seconds ", head.seconds);
+    end_line(writer);
 }
 
 // What is shown of one place.
@@ -58,24 +59,25 @@ pub(crate) struct Row {
     pub(crate) begin: usize,
 }
 
-// Puts the line of a place at `at`, and answers the place behind it.
-pub(crate) fn put_row(out: &mut [u8], at: usize, row: Row) -> usize
-    requires { at < 2 ^ 31 }
-    ensures puts { Puts out.old at (place_line row.place row.step row.level row.stratum row.begin) out.new result }
-    ensures few { result ≤ at + 127 }
+// Puts the line of a place.
+pub(crate) fn put_row(writer: &mut Writer, row: Row)
+    requires { writer.old.at < 2 ^ 31 }
+    ensures puts { PutsText writer.old (place_line row.place row.step row.level row.stratum row.begin) writer.new }
+    ensures few { writer.new.at ≤ writer.old.at + 127 }
 {
-    let at = put_entry(out, at, b"", row.place);
-    let at = put_entry(out, at, b" step ", row.step);
-    let at = put_entry(out, at, b" level ", row.level);
-    let at = put_entry(out, at, b" stratum ", row.stratum);
-    let at = put_entry(out, at, b" at ", row.begin);
-    end_line(out, at)
+    put_entry(writer, b"", row.place);
+    put_entry(writer, b" step ", row.step);
+    put_entry(writer, b" level ", row.level);
+    put_entry(writer, b" stratum ", row.stratum);
+    put_entry(writer, b" at ", row.begin);
+    end_line(writer);
 }
 
-// Puts the line of a refusal at the front, and answers the place behind it.
-pub(crate) fn put_refused(out: &mut [u8], number: usize) -> usize
-    ensures { Puts out.old 0 (refused_line number) out.new result }
+// Puts the line of a refusal.
+pub(crate) fn put_refused(writer: &mut Writer, number: usize)
+    requires { writer.old.at < 2 ^ 31 }
+    ensures { PutsText writer.old (refused_line number) writer.new }
 {
-    let at = put_entry(out, 0, b"refused ", number);
-    end_line(out, at)
+    put_entry(writer, b"refused ", number);
+    end_line(writer);
 }

@@ -1,11 +1,12 @@
 // A listing put into a lent buffer.
 ghost use Rattle.std.specs.Prelude.{◌≡◌, ◌<◌, ◌≤◌, MatchOption};
-ghost use Rattle.decimals.specs.Texts.{Puts};
+ghost use Rattle.decimals.specs.Texts.{Puts, PutsText};
 ghost use Rattle.listings.specs.Shown.{place_lines, shown_text};
 ghost use Rattle.listings.specs.Pages.{shown_on, head_of, row_of, text_of};
 
 use crate::lines::{Head, Row, put_head, put_refused, put_row};
 use crate::page::{Listing, Page};
+use sheets::Writer;
 
 impl Page {
     // What the first line shows.
@@ -37,34 +38,35 @@ impl Page {
     }
 }
 
-// Puts the lines of the places at `at` where the buffer has room for them, and answers the place behind them either way.
-fn put_rows(out: &mut [u8], at: usize, page: &Page) -> usize
-    requires { at ≤ 113 }
-    ensures { Puts out.old at (place_lines (shown_on page.now) page.now.plan.count) out.new result }
+// Puts the lines of the places.
+fn put_rows(writer: &mut Writer, page: &Page)
+    requires { writer.old.at ≤ 113 }
+    ensures { PutsText writer.old (place_lines (shown_on page.now) page.now.plan.count) writer.new }
 {
-    let mut next = at;
     let mut v = 0;
     while let Some(row) = page.row(v) {
-        next = put_row(out, next, row);
+        put_row(writer, row);
         v += 1;
     }
-    next
 }
 
-// Puts the listing of a plan at the front where the buffer has room for it, and answers its length either way.
-fn put_page(out: &mut [u8], page: &Page) -> usize
-    ensures { Puts out.old 0 (shown_text (shown_on page.now)) out.new result }
+// Puts the lines of a plan.
+fn put_page(writer: &mut Writer, page: &Page)
+    requires { writer.old.at ≡ 0 }
+    ensures { PutsText writer.old (shown_text (shown_on page.now)) writer.new }
 {
-    let at = put_head(out, 0, page.head());
-    put_rows(out, at, page)
+    put_head(writer, page.head());
+    put_rows(writer, page);
 }
 
 // Puts a listing at the front where the buffer has room for it, and answers its length either way.
 pub(crate) fn put_listing(out: &mut [u8], listing: &Listing) -> usize
     ensures { Puts out.old 0 (text_of listing.now) out.new result }
 {
+    let mut writer = Writer::new(out);
     match listing {
-        Listing::Refused { number } => put_refused(out, *number as usize),
-        Listing::Accepted(page) => put_page(out, page),
+        Listing::Refused { number } => put_refused(&mut writer, *number as usize),
+        Listing::Accepted(page) => put_page(&mut writer, page),
     }
+    writer.place()
 }

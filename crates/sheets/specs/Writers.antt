@@ -11,3 +11,8 @@ Room w n = w.at + n ≤ length w.out.now
 pub record Writes (old : Writer) (bytes : List ℕ) (new : Writer) : Type 0 where
   pub wrote : Wrote old.out.now old.at bytes new.out.now new.at
   pub lent : new.out.ghost_name ≡ old.out.ghost_name
+
+-- the place goes on, and the buffer is as it was
+pub record Skips (old : Writer) (n : ℕ) (new : Writer) : Type 0 where
+  pub place : new.at ≡ old.at + n
+  pub same : new.out ≡ old.out

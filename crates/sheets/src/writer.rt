@@ -1,6 +1,6 @@
 // Bytes written one behind the other into a lent buffer.
-ghost use Rattle.std.specs.Prelude.{◌≡◌, length};
-ghost use Rattle.sheets.specs.Writers.{Room, Writes};
+ghost use Rattle.std.specs.Prelude.{◌≡◌, ◌+◌, ◌^◌, ◌<◌, length, nat_le};
+ghost use Rattle.sheets.specs.Writers.{Room, Writes, Skips};
 
 use crate::writing::put_bytes;
 
@@ -34,6 +34,22 @@ impl<'a> Writer<'a> {
         ensures { result ≡ self.now.at }
     {
         self.at
+    }
+
+    // Whether so many bytes fit behind what is written.
+    pub fn has_room(&self, n: usize) -> bool
+        requires { self.now.at + n < 2 ^ 64 }
+        ensures { result ≡ nat_le (self.now.at + n) (length self.now.out.now) }
+    {
+        self.at + n <= self.out.len()
+    }
+
+    // The place goes on by so many bytes, and none is written.
+    pub fn skip(&mut self, n: usize)
+        requires { self.old.at + n < 2 ^ 64 }
+        ensures { Skips self.old n self.new }
+    {
+        self.at += n;
     }
 
     // Writes the bytes behind what is written, where the buffer has room for them.

@@ -1,8 +1,7 @@
-use Rattle.std.proofs.Common.{arith}
-use Rattle.decimals.proofs.Puts.{puts_on}
+use Rattle.decimals.proofs.Puts.{puts_text_on}
 use Rattle.listings.specs.Lines.{refused_line}
 use Rattle.listings.proofs.lines.put_refused.Goals as goal
 
 pub returns : goal.returns
 unfolding refused_line
-returns c = puts_on (omega arith) c.put_entry-at.ensures.puts c.end_line.ensures
+returns c = puts_text_on c.put_entry.ensures.puts c.end_line.ensures
