@@ -7,6 +7,7 @@ use Rattle.sheets.specs.declared.fault.Refusal.TheVariants.{Short, OverLimit, Mi
 use Rattle.sheets.specs.declared.fault.Refused.{Refused}
 use Rattle.sheets.specs.declared.fault.SheetFault.{SheetFault}
 use Rattle.sheets.specs.declared.writing.TooShort.{TooShort}
+use Rattle.sheets.specs.declared.lengths.TooLong.{TooLong}
 
 -- the number of each refusal
 abbrev pub number : Refusal → ℕ
@@ -24,12 +25,19 @@ number Trailing = 9
 abbrev pub sheet_notice : SheetFault → Notice
 sheet_notice f = record { number = number f.refusal; values = f.place ∷ [] }
 
--- a lent buffer that is too short: the needed length is named
+-- the number of a buffer that is lent too short, and of a sheet that is too long
 abbrev pub too_short_number : ℕ
 too_short_number = 19
 
+abbrev pub too_long_number : ℕ
+too_long_number = 19
+
+-- a buffer that is too short names the length that it needs; a sheet that is too long, its length
 abbrev pub short_notice : TooShort → Notice
 short_notice e = record { number = too_short_number; values = e.needed ∷ [] }
+
+abbrev pub long_notice : TooLong → Notice
+long_notice e = record { number = too_long_number; values = e.length ∷ [] }
 
 -- a refusal on a sheet of a kind, at its byte place
 abbrev pub fault_on : Sheet → Refused → SheetFault
@@ -39,4 +47,5 @@ fault_on s r = record { sheet = s; refusal = r.refusal; place = r.place }
 pub record Numbering : Type 0 where
   pub sheets : (f : SheetFault) → Listed (sheet_notice f)
   pub short : (e : TooShort) → Listed (short_notice e)
+  pub long : (e : TooLong) → Listed (long_notice e)
   pub own : (r s : Refusal) → number r ≡ number s → r ≡ s

@@ -1,4 +1,5 @@
 pub mod Faults
+pub mod Lengths
 pub mod Verdicts
 pub mod Fields
 pub mod FieldBytes

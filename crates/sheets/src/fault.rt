@@ -11,24 +11,24 @@ pub enum Sheet {
 // Why a sheet is refused.
 #[derive(Clone, Copy, PartialEq, Eq, Debug)]
 pub enum Refusal {
-    // 1: the sheet ends before or inside a field
-    Short,
-    // 2: a count or a time is above its limit
-    OverLimit,
-    // 3: an offset is not where its part begins
-    Misplaced,
-    // 4: a fact is not below the number of facts, or a step not below the number of steps
-    OutOfRange,
-    // 5: a number is not above the one before it in its list
-    NotAbove,
-    // 6: a step deletes a fact that it adds
-    AddedToo,
-    // 7: a level has no steps
-    EmptyLevel,
-    // 8: the levels have more or fewer steps than the header says
-    WrongTotal,
-    // 9: bytes follow the last field
-    Trailing,
+    // the sheet ends before or inside a field
+    Short = 1,
+    // a count or a time is above its limit
+    OverLimit = 2,
+    // an offset is not where its part begins
+    Misplaced = 3,
+    // a fact is not below the number of facts, or a step not below the number of steps
+    OutOfRange = 4,
+    // a number is not above the one before it in its list
+    NotAbove = 5,
+    // a step deletes a fact that it adds
+    AddedToo = 6,
+    // a level has no steps
+    EmptyLevel = 7,
+    // the levels have more or fewer steps than the header says
+    WrongTotal = 8,
+    // bytes follow the last field
+    Trailing = 9,
 }
 
 impl Refusal {
@@ -36,17 +36,7 @@ impl Refusal {
     pub fn number(&self) -> u8
         ensures { result ≡ number self.now }
     {
-        match self {
-            Refusal::Short => 1,
-            Refusal::OverLimit => 2,
-            Refusal::Misplaced => 3,
-            Refusal::OutOfRange => 4,
-            Refusal::NotAbove => 5,
-            Refusal::AddedToo => 6,
-            Refusal::EmptyLevel => 7,
-            Refusal::WrongTotal => 8,
-            Refusal::Trailing => 9,
-        }
+        *self as u8
     }
 }
 
@@ -88,8 +78,6 @@ impl SheetFault {
 }
 
 // Every fault stands on the list of refusals, and each refusal has a number of its own.
-pub fn every_fault_is_listed() -> u8
+pub fn every_fault_is_listed()
     ensures { Numbering }
-{
-    0
-}
+{}

@@ -2,29 +2,21 @@
 ghost use Rattle.sheets.specs.Laws.{FieldLaws, FirstStands, ListLaws, WriteLaws};
 
 // The bytes of a number say it, and bytes are those of the number that they say.
-pub fn fields_say_their_numbers() -> u8
+pub fn fields_say_their_numbers()
     ensures { FieldLaws }
-{
-    0
-}
+{}
 
 // Of parts read in turn, the first that is refused gives its refusal.
-pub fn the_first_refusal_stands() -> u8
+pub fn the_first_refusal_stands()
     ensures { FirstStands }
-{
-    0
-}
+{}
 
 // A list passes exactly where it ascends.
-pub fn lists_that_pass_ascend() -> u8
+pub fn lists_that_pass_ascend()
     ensures { ListLaws }
-{
-    0
-}
+{}
 
 // What is written stands where it is written, and no other byte changes.
-pub fn no_other_byte_is_written() -> u8
+pub fn no_other_byte_is_written()
     ensures { WriteLaws }
-{
-    0
-}
+{}

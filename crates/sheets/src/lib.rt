@@ -6,11 +6,13 @@ pub mod fault_text;
 pub mod field;
 pub mod fields;
 pub mod laws;
+pub mod lengths;
 pub mod lists;
 pub mod writer;
 pub mod writing;
 
 pub use fault::{Refusal, Refused, Sheet, SheetFault};
 pub use field::Field;
+pub use lengths::{LONGEST, TooLong, keeps_length};
 pub use writer::Writer;
 pub use writing::TooShort;
