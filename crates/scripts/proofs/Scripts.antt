@@ -1,5 +1,5 @@
 -- A script read line by line.
-use Rattle.std.proofs.Common.{◌≡◌, ℕ, suc, List, [], ◌∷◌, ◌++◌, length, sym, refl, ap, ◌∙◌, subst, append_assoc, append-nil, arith}
+use Rattle.std.proofs.Common.{◌≡◌, ℕ, suc, List, [], ◌∷◌, ◌++◌, length, sym, refl, ap, ◌∙◌, subst, append_assoc, append-nil}
 use Rattle.cards.specs.declared.request.Request.{Request}
 use Rattle.scripts.specs.Lines.{Says}
 use Rattle.scripts.specs.Scripts.{Ask}
@@ -22,14 +22,12 @@ pub ask_pushed : (ls : List (List ℕ)) (qs ps : List Request) (l : List ℕ) (q
 ask_pushed ls qs ps l q e h s = subst (λ ks. Ask (ls ++ (l ∷ [])) ks) (sym e) (ask_push ls qs l q h s)
 
 -- the lines read, the next one, and those after it
-pub lines_next : (text rest line after : List ℕ) (read : List (List ℕ)) → lines_of text ≡ read ++ lines_of rest → lines_of rest ≡ line ∷ lines_of after → lines_of text ≡ read ++ (line ∷ lines_of after)
-lines_next text rest line after read e f = e ∙ ap (λ ls. read ++ ls) f
+pub lines_next : (text line : List ℕ) (read left more : List (List ℕ)) → lines_of text ≡ read ++ left → left ≡ line ∷ more → lines_of text ≡ read ++ (line ∷ more)
+lines_next text line read left more e f = e ∙ ap (λ ls. read ++ ls) f
 
-pub lines_more : (text rest line after : List ℕ) (read : List (List ℕ)) → lines_of text ≡ read ++ lines_of rest → lines_of rest ≡ line ∷ lines_of after → lines_of text ≡ (read ++ (line ∷ [])) ++ lines_of after
-lines_more text rest line after read e f = lines_next text rest line after read e f ∙ sym (append_assoc read (line ∷ []) (lines_of after))
+pub lines_more : (text line : List ℕ) (read left more : List (List ℕ)) → lines_of text ≡ read ++ left → left ≡ line ∷ more → lines_of text ≡ (read ++ (line ∷ [])) ++ more
+lines_more text line read left more e f = lines_next text line read left more e f ∙ sym (append_assoc read (line ∷ []) more)
 
--- all lines are read where nothing is left
-pub ask_all : (text rest : List ℕ) (read : List (List ℕ)) (qs : List Request) → lines_of text ≡ read ++ lines_of rest → Ask read qs → length rest ≡ 0 → Ask (lines_of text) qs
-unfolding lines_of
-ask_all text [] read qs e h none = subst (λ ls. Ask ls qs) (sym (e ∙ append-nil read)) h
-ask_all text (x ∷ rest) read qs e h none = absurd (omega arith)
+-- all lines are read where none is left
+pub ask_all : (text : List ℕ) (read : List (List ℕ)) (more : List (List ℕ)) (qs : List Request) → lines_of text ≡ read ++ more → more ≡ [] → Ask read qs → Ask (lines_of text) qs
+ask_all text read more qs e none h = subst (λ ls. Ask ls qs) (sym (e ∙ ap (λ ls. read ++ ls) none ∙ append-nil read)) h

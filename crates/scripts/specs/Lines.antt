@@ -36,6 +36,10 @@ Says line (Look n) = Names (codes "look ") line n
 abbrev pub SaysRequest : List ℕ → Option Request → Type 0
 SaysRequest line r = MatchOption r ((q : Request) → Says line q → ⊥) (λ q. Says line q)
 
+-- an answer is the call of this event that the line says, none where it says none
+abbrev pub SaysCall : Event → List ℕ → Option Request → Type 0
+SaysCall e line r = MatchOption r ((n : ℕ) → Names (event_words e) line n → ⊥) (λ q. Says line q)
+
 -- no line says two requests
 abbrev pub OneRequest : Type 0
 OneRequest = (line : List ℕ) (q s : Request) → Says line q → Says line s → q ≡ s

@@ -2,6 +2,7 @@ ghost use Rattle.scripts.specs.FaultText.{script_text};
 ghost use Rattle.std.specs.Prelude.{Some};
 
 use crate::text::ScriptFault;
+use std::error::Error;
 use std::fmt;
 
 // What is wrong with a script, in words.
@@ -18,3 +19,5 @@ impl fmt::Display for ScriptFault {
         }
     }
 }
+
+impl Error for ScriptFault {}

@@ -2,8 +2,6 @@
 ghost use Rattle.scripts.specs.Lines.{OneRequest};
 
 // No line says two requests.
-pub fn no_line_says_two_requests() -> u8
+pub fn no_line_says_two_requests()
     ensures { OneRequest }
-{
-    0
-}
+{}

@@ -1,42 +1,37 @@
-use Rattle.std.proofs.Common.{◌<◌, [], ◌∷◌, ◌++◌, length, vec_items, arith, rules, true-eqb, false-eqb}
-use Rattle.scripts.specs.Texts.{lines_of}
+use Rattle.std.proofs.Common.{[], ◌∷◌, ◌++◌, vec_items, arith}
+use Rattle.scripts.proofs.Texts.{next_line, no_line}
 use Rattle.scripts.proofs.Scripts.{ask_pushed, ask_length, ask_all, lines_next, lines_more}
 use Rattle.scripts.proofs.text.script.Goals as goal
 
 pub returns-in_default : goal.returns-in_default
 returns-in_default c =
-    let some : 0 < length c.loop-rest.rest.now = omega (arith, false-eqb _ _ c.loop-rest-test.ensures) in
-    let read = c.loop-rest.invariant.1 in
-    let line = c.first_line.result.0.now in
-    let after = c.first_line.result.1.now in (
+    let step = rw c.loop-line.invariant.0 at c.in-Some.ensures.steps in
+    let read = c.loop-line.invariant.1 in (
       read.0,
-      line,
-      lines_of after,
-      vec_items c.loop-rest.requests,
-      lines_next c.args.text.now c.loop-rest.rest.now line after read.0 read.1 (c.first_line.ensures.lines some),
+      c.in-Some.line.now,
+      _,
+      vec_items c.loop-line.requests,
+      lines_next c.args.text.now c.in-Some.line.now read.0 _ _ read.1 (next_line _ _ _ _ _ step.0 step.2 step.3),
       read.2,
       c.in_default.ensures,
-      omega (arith, ask_length read.0 (vec_items c.loop-rest.requests) read.2, c.loop-rest.requests.ok.0),
+      omega (arith, ask_length read.0 (vec_items c.loop-line.requests) read.2, c.loop-line.requests.ok.0),
     )
 
-pub loop-rest-preserved : goal.loop-rest-preserved
-loop-rest-preserved c =
-    let some : 0 < length c.loop-rest.rest.now = omega (arith, false-eqb _ _ c.loop-rest-test.ensures) in
-    let read = c.loop-rest.invariant.1 in
-    let line = c.first_line.result.0.now in
-    let after = c.first_line.result.1.now in (
-      search rules,
+pub loop-line-preserved : goal.loop-line-preserved
+loop-line-preserved c =
+    let step = rw c.loop-line.invariant.0 at c.in-Some.ensures.steps in
+    let read = c.loop-line.invariant.1 in (
+      step.1,
       (
-        read.0 ++ (line ∷ []),
-        lines_more c.args.text.now c.loop-rest.rest.now line after read.0 read.1 (c.first_line.ensures.lines some),
-        ask_pushed read.0 (vec_items c.loop-rest.requests) (vec_items c.push.new.self) line c.in-Some.asked
-            c.in_ok-push.ensures.items read.2 c.in-Some.ensures,
+        read.0 ++ (c.in-Some.line.now ∷ []),
+        lines_more c.args.text.now c.in-Some.line.now read.0 _ _ read.1 (next_line _ _ _ _ _ step.0 step.2 step.3),
+        ask_pushed read.0 (vec_items c.loop-line.requests) (vec_items c.push.new.self) c.in-Some.line.now c.in-Some-request.asked
+            c.in_ok-push.ensures.items read.2 c.in-Some-request.ensures,
       ),
-      omega (arith, c.in_ok-push.ensures.len, c.first_line.ensures.shorter some, c.loop-rest.invariant.2),
     )
 
 pub returns : goal.returns
 returns c =
-    let read = c.loop-rest.invariant.1 in
-    ask_all c.args.text.now c.loop-rest.rest.now read.0 (vec_items c.loop-rest.requests) read.1 read.2
-    (true-eqb _ _ c.loop-rest-test.ensures)
+    let step = rw c.loop-line.invariant.0 at c.in-None.ensures.steps in
+    let read = c.loop-line.invariant.1 in
+    ask_all c.args.text.now read.0 _ (vec_items c.loop-line.requests) read.1 (no_line _ _ step.0) read.2

@@ -1,16 +1,13 @@
-use Rattle.std.proofs.Common.{◌≡◌, ℕ, ◌+◌, ◌≤◌, List, ◌++◌, length, vec_items, vec_len}
-use denote.Text.{Utf8}
-use denote.Shadow.{shadow}
+use Rattle.std.proofs.Common.{◌≡◌, ℕ, List, ◌++◌, vec_items}
+use Rattle.std.specs.Str.Iter.{split_terminator_pattern, split_terminator_parts, split_has_more, split_text}
 use Rattle.scripts.specs.Scripts.{Ask}
 use Rattle.scripts.specs.Texts.{lines_of}
+use Rattle.scripts.proofs.Texts.{left}
 use Rattle.scripts.proofs.text.script.Given as goal
 
--- the lines read so far say the requests so far, and those of the rest follow
-abbrev pub invariant-loop-rest : goal.invariant-loop-rest
-invariant-loop-rest l =
-    shadow (Utf8 l.rest)
-    × ((read : List (List ℕ)) × (lines_of l.text ≡ read ++ lines_of l.rest) × Ask read (vec_items l.requests))
-    × (vec_len l.requests + length l.rest ≤ length l.text)
-
-abbrev pub decreases-loop-rest : goal.decreases-loop-rest
-decreases-loop-rest l = length l.rest
+-- the lines read so far say the requests so far, and the iterator has those that follow
+abbrev pub invariant-loop-line : goal.invariant-loop-line
+invariant-loop-line l =
+    let lines = split_terminator_parts l.line-iterator in
+    (split_terminator_pattern l.line-iterator ≡ 10)
+    × ((read : List (List ℕ)) × (lines_of l.text ≡ read ++ left (split_has_more lines) (split_text lines)) × Ask read (vec_items l.requests))
