@@ -1,10 +1,11 @@
 // Decimal numbers in lent buffers.
 #![tactic(auto)]
 
-ghost use Rattle.std.specs.Prelude.{◌≡◌, ◌+◌, ◌/◌, ◌%◌, ◌^◌, ◌<◌, ◌≤◌, length, decimal, MatchOption};
+ghost use Rattle.std.specs.Prelude.{◌≡◌, ◌+◌, ◌^◌, ◌<◌, length, decimal};
 ghost use Rattle.decimals.specs.Numbers.{Decimals};
 ghost use Rattle.decimals.specs.Texts.{PutsText};
 
+use itoa::Buffer;
 use sheets::Writer;
 
 // Puts the bytes behind what was put, where the buffer has room for them; the place goes on either way. Short of room,
@@ -21,35 +22,17 @@ pub fn put_text(writer: &mut Writer, text: &[u8])
     }
 }
 
-// The number without its last digit, if it has more than one.
-fn front(n: usize) -> Option<usize>
-    ensures { MatchOption result (n < 10) (λ m. (10 ≤ n) × (m ≡ n / 10)) }
-{
-    if n < 10 { None } else { Some(n / 10) }
-}
-
-// The byte of the number's last digit.
-fn last_digit(n: usize) -> u8
-    ensures { result ≡ 48 + n % 10 }
-{
-    48 + (n % 10) as u8
-}
-
 // Puts the decimal digits of a number behind what was put, where the buffer has room for them; the place goes on either
-// way. Short of room, the first of them may be put alone.
+// way.
 pub fn put_decimal(writer: &mut Writer, n: usize)
     requires { writer.old.at + length (decimal n) < 2 ^ 64 }
     ensures { PutsText writer.old (decimal n) writer.new }
 {
-    if let Some(rest) = front(n) {
-        put_decimal(writer, rest);
-    }
-    put_text(writer, &[last_digit(n)]);
+    let mut digits = Buffer::new();
+    put_text(writer, digits.format(n).as_bytes());
 }
 
 // The digits of a number, weighed by powers of ten, give it; they lead with no zero, and no other digits say it.
-pub fn decimals_say_their_numbers() -> u8
+pub fn decimals_say_their_numbers()
     ensures { Decimals }
-{
-    0
-}
+{}
