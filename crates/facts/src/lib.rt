@@ -1,10 +1,12 @@
 // Sets of small numbers, a bit for each number.
 #![tactic(auto)]
 
-ghost use Rattle.std.specs.Prelude.{◌≡◌, ℕ, ◌+◌, ◌-◌, ◌*◌, ◌<◌, ◌≤◌, Bool, true, false, not, ◌&&◌, ◌||◌, length, if◌then◌else◌, MatchBool, MatchOption, ◌==◌, nat_lt};
+ghost use Rattle.std.specs.Prelude.{◌≡◌, ℕ, ◌+◌, ◌-◌, ◌*◌, ◌^◌, ◌<◌, ◌≤◌, Bool, true, false, not, ◌&&◌, ◌||◌, length, if◌then◌else◌, MatchBool, MatchOption, ◌==◌, nat_lt, slice_index};
 ghost use Rattle.std.specs.Iterator.{at_most};
 ghost use Rattle.facts.specs.Sets.{holds, First, Next, same_below};
 ghost use Rattle.facts.specs.Laws.{same_numbers, same_numbers-partial};
+
+use std::array::from_fn;
 
 // A set of numbers below 64 * W: number p is bit p % 64 of word p / 64.
 #[derive(Clone, Copy)]
@@ -106,37 +108,42 @@ impl<const W: usize> NumberSet<W> {
         self.write(p, false)
     }
 
+    // The set with the words that `f` makes of the words of both sets, place by place.
+    fn combine<F: Fn(u64, u64) -> u64>(&self, other: &Self, f: F) -> Self
+        requires { F.IsAlwaysCallable f }
+        ensures words { (i : ℕ) → i < W → F.post f (slice_index self.now.words i) (slice_index other.now.words i) (slice_index result.words i) }
+        ensures fit { (i : ℕ) → i < W → slice_index other.now.words i < 2 ^ 64 }
+    {
+        let (mine, others) = (self.words, other.words);
+        NumberSet {
+            words: from_fn(|i| -> u64
+                requires place { i < W }
+                requires callable { F.IsAlwaysCallable f }
+                ensures word { F.post f (slice_index mine i) (slice_index others i) result }
+                ensures fits { slice_index others i < 2 ^ 64 }
+            { f(mine[i], others[i]) }),
+        }
+    }
+
     // The numbers in `self`, in `other` or in both.
     pub fn union(&self, other: &Self) -> Self
         ensures { (q : ℕ) → holds result.words q ≡ (holds self.now.words q || holds other.now.words q) }
     {
-        let mut words = self.words;
-        for i in 0..W {
-            words[i] |= other.words[i];
-        }
-        NumberSet { words }
+        self.combine(other, |a, b| a | b)
     }
 
     // The numbers in `self` that are not in `other`.
     pub fn minus(&self, other: &Self) -> Self
         ensures { (q : ℕ) → holds result.words q ≡ (holds self.now.words q && not (holds other.now.words q)) }
     {
-        let mut words = self.words;
-        for i in 0..W {
-            words[i] &= !other.words[i];
-        }
-        NumberSet { words }
+        self.combine(other, |a, b| a & !b)
     }
 
     // The numbers in both.
     pub fn common(&self, other: &Self) -> Self
         ensures { (q : ℕ) → holds result.words q ≡ (holds self.now.words q && holds other.now.words q) }
     {
-        let mut words = self.words;
-        for i in 0..W {
-            words[i] &= other.words[i];
-        }
-        NumberSet { words }
+        self.combine(other, |a, b| a & b)
     }
 
     // The first number of the set from `p` on.
