@@ -150,9 +150,9 @@ impl<const W: usize> NumberSet<W> {
     pub fn next_from(&self, p: usize) -> Option<usize>
         ensures { MatchOption result ((q : ℕ) → p ≤ q → holds self.now.words q ≡ false) (λ n. (n < 64 * W) × Next (holds self.now.words) p n) }
     {
-        for i in p / 64..W {
+        for (i, word) in self.words.iter().enumerate().skip(p / 64) {
             let low = p.saturating_sub(64 * i);
-            let word = self.words[i] >> low << low;
+            let word = *word >> low << low;
             if word != 0 {
                 return Some(64 * i + word.trailing_zeros() as usize);
             }

@@ -1,5 +1,6 @@
+use Rattle.std.proofs.Common.{◌+◌, ◌/◌, length}
 use Rattle.facts.proofs.Rows.{Clear}
 use Rattle.facts.proofs.NumberSet.next_from.Given as goal
 
 abbrev pub invariant-loop-i : goal.invariant-loop-i
-invariant-loop-i g l = Clear l.self.words l.p l.i
+invariant-loop-i g l = Clear l.self.words l.p (l.p / 64 + length l.yielded)
