@@ -1,5 +1,5 @@
 -- The bits of words, and the numbers that a row of words holds.
-use Rattle.std.proofs.Common.{◌≡◌, ℕ, zero, suc, ◌+◌, ◌-◌, ◌*◌, ◌/◌, ◌%◌, ◌^◌, ◌<◌, ◌≤◌, min, max, true, false, cond, not, ◌&&◌, ◌||◌, eqb, leb, ◌≢◌, List, length, get_or, set, replicate, sym, refl, ap, ◌∙◌, ⊎_elim, mul_assoc, one-mul, mul_left_comm, arith}
+use Rattle.std.proofs.Common.{◌≡◌, ℕ, zero, suc, ◌+◌, ◌-◌, ◌*◌, ◌/◌, ◌%◌, ◌^◌, ◌<◌, ◌≤◌, min, max, Bool, true, false, cond, not, ◌&&◌, ◌||◌, eqb, leb, ◌≢◌, List, length, get_or, set, replicate, Some, None, Option, MatchOption, Bor, sym, refl, ap, ◌∙◌, ⊎_elim, mul_assoc, one-mul, mul_left_comm, arith}
 use native.Mathlib.Nat.{two-pow-succ, div-div-eq-div-mul, pow-succ', zero-div}
 use lib.Bits.{bit_and, bit_or, or_step, and_step, or_shr, and_shr, and_mask}
 use lib.Pow.{shl-shr}
@@ -8,6 +8,7 @@ use Rattle.std.proofs.lemmas.Bool.Decides.{nat_tests}
 use Rattle.std.proofs.lemmas.Bool.{cases_eq, cases_lt, eq-eqb, ne_eqb}
 use Rattle.std.proofs.lemmas.Nat.{one_shl, shr-shr, shr_split, pow-add}
 use Rattle.std.proofs.lemmas.List.{get_or-set_same, get_or-set_other, get_or_past}
+use Rattle.std.specs.Slice.{IsItemAt}
 use Rattle.facts.specs.Sets.{bit, holds}
 
 halve : (n k : ℕ) → n / 2 ^ suc k ≡ n / 2 / 2 ^ k
@@ -170,3 +171,10 @@ zero_word (suc n) (suc i) = zero_word n i
 pub holds_zero : (n q : ℕ) → holds (replicate n 0) q ≡ false
 unfolding holds
 holds_zero n q = rw (zero_word n (q / 64)) (bit_zero (q % 64))
+
+-- a test of the word that stands at number p, if one does, that tells the bit of the number there
+pub bit_there : (ws : List ℕ) (p : ℕ) (word : Option (Bor ℕ)) (r : Bool) (Test : Bor ℕ → Type 0) → IsItemAt ws (p / 64) word
+    → MatchOption word (r ≡ false) Test → ((w : Bor ℕ) → Test w → r ≡ eqb (bit_and (w.now / 2 ^ (p % 64)) 1) 1) → r ≡ holds ws p
+unfolding holds
+bit_there ws p None r Test at h told = h ∙ sym (holds_past ws p at.3)
+bit_there ws p (Some w) r Test at h told = told w h ∙ bit_read w.now (p % 64) ∙ ap (λ x. bit x (p % 64)) (at.3.1 0)

@@ -69,10 +69,9 @@ impl<const W: usize> NumberSet<W> {
     pub fn contains(&self, p: usize) -> bool
         ensures { result ≡ holds self.now.words p }
     {
-        match self.words.get(p / 64) {
-            Some(word) => *word >> (p % 64) & 1 == 1,
-            None => false,
-        }
+        self.words
+            .get(p / 64)
+            .is_some_and(|word| *word >> (p % 64) & 1 == 1)
     }
 
     // Makes `p` a member or not; no where the set has no room for such a number.
@@ -81,6 +80,7 @@ impl<const W: usize> NumberSet<W> {
         ensures after { (q : ℕ) → holds self.new.words q ≡ (if result && q == p then member else holds self.old.words q) }
         ensures past { result ≡ false → holds self.old.words p ≡ false }
     {
+        // Once a borrow by get_mut is over, the check knows no element of the array: so the word is written by its index.
         if p / 64 >= W {
             return false;
         }
