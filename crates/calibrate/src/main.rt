@@ -1,13 +1,12 @@
 // One calibration of a logger, carried out on a fact board step by step.
 #![tactic(auto)]
 
-ghost use Rattle.std.specs.Prelude.{◌≡◌, ℕ, true, false, ◌&&◌, ◌||◌, MatchBool, nat_lt};
+ghost use Rattle.std.specs.Prelude.{◌≡◌, ℕ, true, false, ◌&&◌, ◌||◌, MatchOption, nat_lt};
 ghost use Rattle.books.specs.Book.{after};
 ghost use Rattle.calibrate.specs.Shelf.{shelved};
 ghost use Rattle.facts.specs.Sets.{holds};
 ghost use Rattle.racks.specs.Rack.{rack_model, rack_step_number, step_on};
 
-use anyhow::anyhow;
 use boards::{BitBoard, Board, do_step};
 use books::Book;
 use racks::{Rack, RackFact, RackStep};
@@ -21,17 +20,13 @@ const STEPS: [RackStep; 4] = [
     RackStep::TakeOut { logger: 0, bath: 0 },
 ];
 
-// Does a step of the rack on the board; no, and nothing changed, where the rack has no such step.
-fn carry_out(rack: &Rack, board: &mut BitBoard, step: RackStep) -> bool
-    ensures { MatchBool result ((step_on rack.now.loggers rack.now.baths step ≡ true) × ((q : ℕ) → holds board.new.facts.words q ≡ (after (rack_model rack.now.loggers rack.now.baths) (holds board.old.facts.words) (rack_step_number rack.now.loggers rack.now.baths step) q && nat_lt q 1024))) ((step_on rack.now.loggers rack.now.baths step ≡ false) × (board.new ≡ board.old)) }
+// Does a step of the rack on the board, and answers its number; none, and nothing changed, where the rack has no such step.
+fn carry_out(rack: &Rack, board: &mut BitBoard, step: RackStep) -> Option<usize>
+    ensures { MatchOption result ((step_on rack.now.loggers rack.now.baths step ≡ false) × (board.new ≡ board.old)) (λ a. (step_on rack.now.loggers rack.now.baths step ≡ true) × (a ≡ rack_step_number rack.now.loggers rack.now.baths step) × ((q : ℕ) → holds board.new.facts.words q ≡ (after (rack_model rack.now.loggers rack.now.baths) (holds board.old.facts.words) a q && nat_lt q 1024))) }
 {
-    match rack.step_number(step) {
-        Some(a) => {
-            do_step(rack, board, a);
-            true
-        }
-        None => false,
-    }
+    let a = rack.number(step)?;
+    do_step(rack, board, a);
+    Some(a)
 }
 
 // Puts every logger on the shelf, and leaves the other facts.
@@ -39,7 +34,7 @@ fn shelve(rack: &Rack, board: &mut BitBoard)
     ensures { (q : ℕ) → holds board.new.facts.words q ≡ (holds board.old.facts.words q || shelved rack.now.baths rack.now.loggers rack.now.loggers q) }
 {
     for logger in 0..rack.loggers() {
-        if let Some(p) = rack.fact_number(RackFact::OnShelf { logger }) {
+        if let Some(p) = rack.number(RackFact::OnShelf { logger }) {
             board.put(p);
         }
     }
@@ -49,7 +44,7 @@ fn shelve(rack: &Rack, board: &mut BitBoard)
 fn print_board(rt: &HostRuntime, rack: &Rack, board: &BitBoard) -> io::Result<()> {
     for p in 0..rack.facts() {
         if board.held(p)
-            && let Some(fact) = rack.fact(p)
+            && let Some(fact) = rack.name::<RackFact>(p)
         {
             print!(rt; "; {p} {fact}")?;
         }
@@ -61,7 +56,7 @@ fn print_board(rt: &HostRuntime, rack: &Rack, board: &BitBoard) -> io::Result<()
 fn print_readings(rt: &HostRuntime, rack: &Rack, board: &BitBoard) -> io::Result<()> {
     for p in 0..rack.facts() {
         if board.held(p)
-            && let Some(RackFact::ReadIn { logger, bath }) = rack.fact(p)
+            && let Some(RackFact::ReadIn { logger, bath }) = rack.name(p)
         {
             println!(rt; "done: logger {logger} read in bath {bath}")?;
         }
@@ -70,15 +65,13 @@ fn print_readings(rt: &HostRuntime, rack: &Rack, board: &BitBoard) -> io::Result
 }
 
 fn main(rt: HostRuntime) -> anyhow::Result<()> {
-    let Ok(rack) = Rack::new(2, 1) else {
-        return Err(anyhow!("there is no rack of 2 loggers and 1 bath"));
-    };
+    let rack = Rack::new(2, 1)?;
     let mut board = BitBoard::new();
     shelve(&rack, &mut board);
     print!(rt; "start")?;
     print_board(&rt, &rack, &board)?;
     for step in STEPS {
-        if carry_out(&rack, &mut board, step) {
+        if carry_out(&rack, &mut board, step).is_some() {
             print!(rt; "{step}")?;
             print_board(&rt, &rack, &board)?;
         }

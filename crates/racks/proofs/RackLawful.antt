@@ -1,6 +1,6 @@
 -- Proof that the book of a rack is lawful.
 use Rattle.std.proofs.Common.{◌≡◌, ℕ, ◌*◌, ◌<◌, ◌≤◌, true, false, ◌&&◌, ltb, List, [], ◌∷◌, length, Some, None, Option, refl, ⊎_elim, arith, MatchOption}
-use Rattle.std.specs.List.{AllByRecursion as All}
+use Rattle.std.specs.List.{AllByRecursion}
 use Rattle.std.proofs.lemmas.Bool.{ne_eqb, or_from, and_left, and_right, and_parts, cases_lt}
 use Rattle.racks.specs.declared.rack_names.RackFact.{RackFact}
 use Rattle.racks.specs.declared.rack_names.RackStep.{RackStep}
@@ -24,13 +24,13 @@ past_time R B a None h past = refl
 past_time R B a (Some s) h past = absurd (omega (arith, step_below R B s h.0, h.1))
 
 -- facts on the rack have numbers below the number of facts
-not_listed : (R B p : ℕ) (fs : List RackFact) → All (λ f. fact_on R B f ≡ true) fs → count_of_facts R B ≤ p → listed (numbers R B fs) p ≡ false
+not_listed : (R B p : ℕ) (fs : List RackFact) → AllByRecursion (λ f. fact_on R B f ≡ true) fs → count_of_facts R B ≤ p → listed (numbers R B fs) p ≡ false
 not_listed R B p [] h past = refl
 not_listed R B p (f ∷ fs) h past =
     let low = fact_below R B f h.0 in
     or_from _ _ (ne_eqb p (rack_fact_number R B f) (λ q. omega arith)) (not_listed R B p fs h.1 past)
 
-past_fact : (R B a p : ℕ) (of : RackStep → List RackFact) → ((s : RackStep) → step_on R B s ≡ true → All (λ f. fact_on R B f ≡ true) (of s)) →
+past_fact : (R B a p : ℕ) (of : RackStep → List RackFact) → ((s : RackStep) → step_on R B s ≡ true → AllByRecursion (λ f. fact_on R B f ≡ true) (of s)) →
     (o : Option RackStep) → Numbered R B a o → count_of_facts R B ≤ p → set_of_step R B of o p ≡ false
 past_fact R B a p of on None h past = refl
 past_fact R B a p of on (Some s) h past = not_listed R B p (of s) (on s h.0) past
@@ -41,7 +41,7 @@ few_facts R B n of few None = omega (arith, count_none (λ p. false) (λ p. refl
 few_facts R B n of few (Some s) = omega (arith, count_entries (numbers R B (of s)) n, few s)
 
 sets : (R B : ℕ) (of : RackStep → List RackFact) → 1 ≤ B →
-    ((s : RackStep) → step_on R B s ≡ true → All (λ f. fact_on R B f ≡ true) (of s)) →
+    ((s : RackStep) → step_on R B s ≡ true → AllByRecursion (λ f. fact_on R B f ≡ true) (of s)) →
     ((s : RackStep) → length (numbers R B (of s)) ≤ 2) →
     StepSets (count_of_facts R B) (count_of_steps R B) (λ a. set_of_step R B of (step_at R B a))
 sets R B of bath on few = record {
@@ -51,19 +51,19 @@ sets R B of bath on few = record {
 }
 
 -- a step's facts are on the rack where the step is
-needs_on : (R B : ℕ) (s : RackStep) → step_on R B s ≡ true → All (λ f. fact_on R B f ≡ true) (needs_of s)
+needs_on : (R B : ℕ) (s : RackStep) → step_on R B s ≡ true → AllByRecursion (λ f. fact_on R B f ≡ true) (needs_of s)
 needs_on R B (Put l b) e = ((and_parts (ltb l R) (ltb b B) e).0, tt)
 needs_on R B (TakeOut l b) e = (e, tt)
 needs_on R B (Read l b) e = (e, ((and_parts (ltb l R) (ltb b B) e).1, tt))
 needs_on R B (Settle b) e = tt
 
-adds_on : (R B : ℕ) (s : RackStep) → step_on R B s ≡ true → All (λ f. fact_on R B f ≡ true) (adds_of s)
+adds_on : (R B : ℕ) (s : RackStep) → step_on R B s ≡ true → AllByRecursion (λ f. fact_on R B f ≡ true) (adds_of s)
 adds_on R B (Put l b) e = (e, tt)
 adds_on R B (TakeOut l b) e = ((and_parts (ltb l R) (ltb b B) e).0, tt)
 adds_on R B (Read l b) e = (e, tt)
 adds_on R B (Settle b) e = (e, tt)
 
-deletes_on : (R B : ℕ) (s : RackStep) → step_on R B s ≡ true → All (λ f. fact_on R B f ≡ true) (deletes_of s)
+deletes_on : (R B : ℕ) (s : RackStep) → step_on R B s ≡ true → AllByRecursion (λ f. fact_on R B f ≡ true) (deletes_of s)
 deletes_on R B (Put l b) e = ((and_parts (ltb l R) (ltb b B) e).0, ((and_parts (ltb l R) (ltb b B) e).1, tt))
 deletes_on R B (TakeOut l b) e = (e, tt)
 deletes_on R B (Read l b) e = tt

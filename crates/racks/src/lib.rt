@@ -8,7 +8,7 @@ pub mod rack_text;
 
 pub use rack::Rack;
 pub use rack_fault::RackFault;
-pub use rack_names::{RackFact, RackStep};
+pub use rack_names::{RackFact, RackName, RackStep};
 
 #[cfg(test)]
 mod tests;

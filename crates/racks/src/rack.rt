@@ -1,11 +1,14 @@
-ghost use Rattle.std.specs.Prelude.{◌≡◌, ◌*◌, ◌≤◌, true, false, IfOk, MatchResult};
+ghost use Rattle.std.specs.Prelude.{◌≡◌, ◌*◌, ◌≤◌, true, false, IfOk, MatchOption, MatchResult};
 ghost use Rattle.books.specs.Book.{Lawful};
 ghost use Rattle.racks.specs.Rack.{is_a_rack, rack_model, RackRules};
 
 use crate::rack_fault::RackFault;
+use crate::rack_names::RackName;
 
 pub mod book;
-mod numbers;
+mod fact_numbers;
+mod pairs;
+mod step_numbers;
 
 // A shelf of loggers beside some baths, with at most 128 pairs of a logger and a bath.
 #[derive(Clone, Copy)]
@@ -28,10 +31,11 @@ impl Rack {
     fn is_rack(loggers: usize, baths: usize) -> bool
         ensures { result ≡ is_a_rack loggers baths }
     {
-        let Some(pairs) = loggers.checked_mul(baths) else {
-            return false;
-        };
-        loggers > 0 && baths > 0 && pairs <= Self::MOST_PAIRS
+        loggers > 0
+            && baths > 0
+            && loggers
+                .checked_mul(baths)
+                .is_some_and(|pairs| pairs <= Self::MOST_PAIRS)
     }
 
     // The rack of so many loggers and baths.
@@ -57,5 +61,20 @@ impl Rack {
         ensures { result ≡ self.now.baths }
     {
         self.baths
+    }
+
+    // The number of a fact or a step, where its logger and its bath are on the rack.
+    pub fn number<N: RackName>(&self, name: N) -> Option<usize>
+        ensures { MatchOption result (N.on self.now.loggers self.now.baths name ≡ false) (λ n. N.Numbered self.now.loggers self.now.baths name n) }
+    {
+        name.number_on(self)
+    }
+
+    // The fact or the step with number `n`, none past the last.
+    pub fn name<N: RackName>(&self, n: usize) -> Option<N>
+        ensures at { result ≡ N.at self.now.loggers self.now.baths n }
+        ensures numbered { MatchOption result (N.count self.now.loggers self.now.baths ≤ n) (λ name. N.Numbered self.now.loggers self.now.baths name n) }
+    {
+        N::with_number(self, n)
     }
 }

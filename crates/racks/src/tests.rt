@@ -71,16 +71,16 @@ fn two_loggers_one_bath(rt: HostRuntime) -> Result<(), Fail> {
 fn words(rt: HostRuntime) -> Result<(), Fail> {
     let rack = Rack::new(2, 3)?;
     assert_eq!(rt;
-        rack.step_number(RackStep::TakeOut { logger: 1, bath: 2 }),
+        rack.number(RackStep::TakeOut { logger: 1, bath: 2 }),
         Some(11)
     );
-    assert_eq!(rt; rack.fact_number(RackFact::Settled { bath: 3 }), None);
-    let step = rack.step(11).ok_or("no step 11")?;
+    assert_eq!(rt; rack.number(RackFact::Settled { bath: 3 }), None);
+    let step = rack.name::<RackStep>(11).ok_or("no step 11")?;
     assert_eq!(rt;
         step.to_string(rt.alloc())?.as_str(),
         "take logger 1 out of bath 2"
     );
-    let fact = rack.fact(7).ok_or("no fact 7")?;
+    let fact = rack.name::<RackFact>(7).ok_or("no fact 7")?;
     assert_eq!(rt;
         fact.to_string(rt.alloc())?.as_str(),
         "logger 1 on the shelf"

@@ -20,7 +20,7 @@ impl Book for Rack {
     }
 
     fn needs(&self, a: usize, p: usize) -> bool {
-        match self.step(a) {
+        match self.name(a) {
             Some(RackStep::Put { logger, .. }) => self.is(p, RackFact::OnShelf { logger }),
             Some(RackStep::TakeOut { logger, bath }) => {
                 self.is(p, RackFact::InBath { logger, bath })
@@ -34,7 +34,7 @@ impl Book for Rack {
     }
 
     fn adds(&self, a: usize, p: usize) -> bool {
-        match self.step(a) {
+        match self.name(a) {
             Some(RackStep::Put { logger, bath }) => self.is(p, RackFact::InBath { logger, bath }),
             Some(RackStep::TakeOut { logger, .. }) => self.is(p, RackFact::OnShelf { logger }),
             Some(RackStep::Read { logger, bath }) => self.is(p, RackFact::ReadIn { logger, bath }),
@@ -44,7 +44,7 @@ impl Book for Rack {
     }
 
     fn deletes(&self, a: usize, p: usize) -> bool {
-        match self.step(a) {
+        match self.name(a) {
             Some(RackStep::Put { logger, bath }) => {
                 self.is(p, RackFact::Settled { bath }) || self.is(p, RackFact::OnShelf { logger })
             }
@@ -56,7 +56,7 @@ impl Book for Rack {
     }
 
     fn seconds(&self, a: usize) -> u32 {
-        match self.step(a) {
+        match self.name(a) {
             Some(RackStep::Put { .. } | RackStep::TakeOut { .. } | RackStep::Read { .. }) => 60,
             Some(RackStep::Settle { .. }) => 1800,
             None => 0,
