@@ -10,8 +10,8 @@ use Rattle.task_sheets.specs.declared.item.Part.TheVariants.{Start as StartPart,
 use Rattle.task_sheets.specs.declared.task_sheet.TaskSheet.{TaskSheet}
 use Rattle.task_sheets.specs.Content.{Task, LawfulLevel, LawfulTask}
 use Rattle.task_sheets.specs.Parts.{list_of}
-use Rattle.task_sheets.specs.Opened.{task_of, bytes_of}
-use Rattle.task_sheets.proofs.Sound.{sheet_good, lawful_content}
+use Rattle.task_sheets.specs.Opened.{task_of}
+pub use Rattle.task_sheets.proofs.Items.{sheet_lawful}
 
 pub listed_append : (xs ys : List ℕ) (q : ℕ) → listed (xs ++ ys) q ≡ (listed xs q || listed ys q)
 listed_append [] ys q = refl
@@ -30,10 +30,6 @@ listed_below (x ∷ xs) n q w =
     let e = listed_below xs n q (λ j l. w (suc j) (omega arith)) in
     let h : x < n = w 0 (omega arith) in
     grind (arith, nat_tests)
-
--- a sheet says a lawful task
-pub sheet_lawful : (s : TaskSheet) → LawfulTask (task_of s)
-sheet_lawful s = lawful_content (bytes_of s) (sheet_good (bytes_of s) s.passes)
 
 level_below : (t : Task) → LawfulTask t → (i j : ℕ) → j < length (get_or t.levels i []) → get_or (get_or t.levels i []) j 0 < 1024
 level_below t w i j l =

@@ -26,12 +26,9 @@ fn pass_levels<B: Book>(
 {
     let mut facts = part_set(task, Part::Start).words();
     let mut steps = [0; 256];
-    let mut levels = task.levels_in_turn();
-    let mut number = 0;
-    while let Some(level) = levels.next() {
-        number += 1;
+    for (i, level) in task.levels_in_turn().enumerate() {
         let count = copy_steps(&level, &mut steps);
-        facts = pass_level(book, facts, &steps[0..count], number, draft)?;
+        facts = pass_level(book, facts, &steps[..count], i + 1, draft)?;
     }
     Ok(facts)
 }

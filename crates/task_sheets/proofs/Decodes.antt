@@ -11,7 +11,7 @@ use Rattle.sheets.proofs.Stands.{Stands, stands_whole, stands_rest, stands_front
 use Rattle.sheets.proofs.Entries.{entries_pass}
 use Rattle.task_sheets.specs.Layout.{header, past, start_at, goal_at, level_begins_at, steps_before, counted, placed, level, levels, task_verdict}
 use Rattle.task_sheets.specs.Content.{Task, list_bytes, plan_bytes, behind, total, encode, list_at, levels_from, content, LawfulLevel, LawfulTask}
-use Rattle.task_sheets.proofs.Turns.{level_in}
+use Rattle.task_sheets.proofs.Sound.{level_in}
 
 -- ascending numbers below a bound are at most as many as the bound
 climbs : (f : ℕ) (ps : List ℕ) → Ascending f ps → (j : ℕ) → j < length ps → j ≤ get_or ps j 0

@@ -1,15 +1,18 @@
 -- The parts of a task sheet that passes.
-use Rattle.std.proofs.Common.{◌≡◌, ℕ, zero, suc, ◌+◌, ◌-◌, ◌<◌, ◌≤◌, true, false, ltb, leb, ◌⊎◌, List, [], length, sym, refl, ap, ◌∙◌, subst, inl, inr, arith}
+use Rattle.std.proofs.Common.{◌≡◌, ℕ, zero, suc, ◌+◌, ◌-◌, ◌<◌, ◌≤◌, true, false, ltb, leb, ◌⊎◌, List, [], length, Option, None, Some, sym, refl, ap, ◌∙◌, subst, inl, inr, arith}
+use denote.Ref.{Bor}
 use Rattle.std.specs.List.{between}
+use Rattle.std.specs.Option.{ForSome, option_map_or}
 use Rattle.std.proofs.lemmas.Bool.{lt-ltb, le-ltb, le-leb, lt-leb, and_from, and_left, and_right}
 use Rattle.std.proofs.lemmas.List.{get_or_past}
 use Rattle.sheets.specs.Fields.{be16}
+use Rattle.sheets.proofs.Verdicts.{Passes}
 use Rattle.task_sheets.specs.declared.task_sheet.TaskSheet.{TaskSheet}
 use Rattle.task_sheets.specs.declared.item.Part.TheVariants.{Level}
-use Rattle.task_sheets.specs.Layout.{past, goal_at, level_begins_at}
-use Rattle.task_sheets.specs.Content.{list_at, levels_from, content, no_task, LawfulTask}
+use Rattle.task_sheets.specs.Layout.{past, goal_at, level_begins_at, task_verdict}
+use Rattle.task_sheets.specs.Content.{list_at, levels_from, content, no_task, encode, LawfulTask}
 use Rattle.task_sheets.specs.Parts.{has, list_of, part_numbers}
-use Rattle.task_sheets.specs.Opened.{task_of}
+use Rattle.task_sheets.specs.Opened.{bytes_of, task_of}
 use Rattle.task_sheets.proofs.Sound.{GoodSheet, sheet_good, lawful_content, length_levels_from}
 use Rattle.task_sheets.proofs.Laws.{get_or_levels_from}
 use Rattle.task_sheets.proofs.Slices.{part_numbers_lem}
@@ -57,10 +60,23 @@ module _ (xs : List ℕ) (g : GoodSheet xs) where
       let z : suc (n - 1) ≡ n = omega arith in
       h ∙ ap (λ v. between v (past xs v) xs) e ∙ ap (λ v. between (level_begins_at xs (n - 1)) v xs) (ap (level_begins_at xs) z)
 
--- a sheet that is not opened says the task of no facts, steps and levels
-pub unopened_says : (s : TaskSheet) → s.opened ≡ false → task_of s ≡ no_task
-unopened_says s e = ap content (s.blank e)
+-- the bytes that a sheet reads, opened or not, are a sheet, and say a lawful task
+passes_read : (o : Option (Bor (List ℕ))) → ForSome o (λ bytes. Passes (task_verdict bytes.now)) → Passes (task_verdict (option_map_or (λ bytes. bytes.now) o (encode no_task)))
+passes_read None h = refl
+passes_read (Some bytes) h = h bytes refl
 
--- every sheet, opened or not, says a lawful task
+pub sheet_passes : (s : TaskSheet) → Passes (task_verdict (bytes_of s))
+sheet_passes s = passes_read s.opened s.passes
+
+pub good_sheet : (s : TaskSheet) → GoodSheet (bytes_of s)
+good_sheet s = sheet_good (bytes_of s) (sheet_passes s)
+
 pub sheet_lawful : (s : TaskSheet) → LawfulTask (task_of s)
-sheet_lawful s = lawful_content s.bytes.now (sheet_good s.bytes.now s.passes)
+sheet_lawful s = lawful_content (bytes_of s) (good_sheet s)
+
+-- a sheet that was opened
+pub reads : (s : TaskSheet) (b : Bor (List ℕ)) → s.opened ≡ Some b → bytes_of s ≡ b.now
+reads s b e = ap (λ o. option_map_or (λ bytes. bytes.now) o (encode no_task)) e
+
+pub good_opened : (s : TaskSheet) (b : Bor (List ℕ)) → s.opened ≡ Some b → GoodSheet b.now
+good_opened s b e = sheet_good b.now (s.passes b e)

@@ -1,8 +1,12 @@
 -- Which bytes open, and what they say.
-use Rattle.std.proofs.Common.{◌≡◌, ℕ, zero, suc, ◌+◌, ◌-◌, ◌*◌, ◌<◌, ◌≤◌, true, leb, List, [], ◌∷◌, length, get_or, is_ok, Err, sym, refl, ap, ◌∙◌, arith}
+use Rattle.std.proofs.Common.{◌≡◌, ℕ, zero, suc, ◌+◌, ◌-◌, ◌*◌, ◌<◌, ◌≤◌, true, leb, List, [], ◌∷◌, length, get_or, is_ok, Ok, Err, Result, sym, refl, ap, ◌∙◌, arith}
 use Rattle.std.specs.List.{between}
+use Rattle.std.specs.Result.{MatchResult}
 use Rattle.std.proofs.lemmas.Bool.{both_ways, and_parts, and_from, leb-true, le-leb}
 use Rattle.sheets.specs.declared.fault.Refused.{Refused}
+use Rattle.sheets.specs.declared.fault.Sheet.TheVariants.{Task as TaskOn}
+use Rattle.sheets.specs.declared.fault.SheetFault.{SheetFault}
+use Rattle.sheets.specs.Verdicts.{verdict_on}
 use Rattle.sheets.specs.Fields.{be16}
 use Rattle.sheets.specs.Lists.{numbers_at}
 use Rattle.sheets.proofs.Verdicts.{Passes, passes_fine}
@@ -24,6 +28,14 @@ says_one xs b ok = record {
 
 pub says_none : (xs : List ℕ) (e : Refused) → task_verdict xs ≡ Err e → SaysNone xs
 says_none xs e h t s = both_ways (is_ok (task_verdict xs)) (ap is_ok h) (ap (λ v. is_ok (task_verdict v)) s.encoded ∙ encode_passes t s.lawful)
+
+-- what the answer of opening says of the bytes
+pub said_by : (xs : List ℕ) → Bytes xs → (r : Result (Unit {0}) SheetFault) → r ≡ verdict_on TaskOn (task_verdict xs) → MatchResult r (λ _. SaysOne xs) (λ _. SaysNone xs)
+said_by xs b r e =
+    rw e (elim (task_verdict xs) as (λ v. task_verdict xs ≡ v → MatchResult (verdict_on TaskOn v) (λ _. SaysOne xs) (λ _. SaysNone xs)) [
+      | Ok u ↦ λ h. says_one xs b (ap is_ok h)
+      | Err f ↦ λ h. says_none xs f h
+    ] refl)
 
 pub one_sheet_each : OneSheetEach
 one_sheet_each = record {

@@ -1,4 +1,3 @@
-pub mod Turns
 pub mod Sound
 pub mod Codes
 pub mod Decodes

@@ -11,7 +11,10 @@ use Rattle.sheets.proofs.Stands.{length_numbers_at}
 use Rattle.sheets.proofs.Entries.{entries_room, entries_ascend}
 use Rattle.task_sheets.specs.Layout.{header, past, start_at, goal_at, level_begins_at, steps_before, counted, placed, level, levels, task_verdict}
 use Rattle.task_sheets.specs.Content.{list_at, levels_from, total, content, LawfulLevel, LawfulTask}
-use Rattle.task_sheets.proofs.Turns.{level_in}
+
+-- the verdict on level i, as it stands among all levels
+abbrev pub level_in : List ℕ → ℕ → Verdict
+level_in xs i = level xs (be16 xs 2) (be16 xs 6) (steps_before xs i) (level_begins_at xs i)
 
 -- what is known of a list that begins at a byte
 pub record Good (xs : List ℕ) (bound at : ℕ) : Type 0 where

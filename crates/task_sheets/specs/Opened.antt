@@ -1,16 +1,17 @@
 -- What an open task sheet means, and the law of opening.
-use Rattle.std.specs.Prelude.{◌≡◌, ℕ, ◌<◌, true, List, [], ◌∷◌, Some, None, Option, slice_index}
+use Rattle.std.specs.Prelude.{◌≡◌, ℕ, ◌<◌, List, [], ◌∷◌, Some, None, Option, IsSome, slice_index}
+use Rattle.std.specs.Option.{option_map_or}
 use Rattle.sheets.specs.Verdicts.{fine}
 use Rattle.task_sheets.specs.declared.task_sheet.TaskSheet.{TaskSheet}
 use Rattle.task_sheets.specs.declared.numbers.Numbers.{Numbers}
 use Rattle.task_sheets.specs.declared.levels.Levels.{Levels}
 use Rattle.task_sheets.specs.Layout.{task_verdict}
-use Rattle.task_sheets.specs.Content.{Task, encode, content, levels_from, LawfulTask}
+use Rattle.task_sheets.specs.Content.{Task, no_task, encode, content, levels_from, LawfulTask}
 use Rattle.task_sheets.specs.Parts.{numbers_of}
 
--- the bytes that a sheet reads
+-- the bytes that a sheet reads: those that were opened, and else those of the task of no facts, steps and levels
 abbrev pub bytes_of : TaskSheet → List ℕ
-bytes_of s = s.bytes.now
+bytes_of s = option_map_or (λ bytes. bytes.now) s.opened (encode no_task)
 
 -- the task that a sheet says
 abbrev pub task_of : TaskSheet → Task
@@ -18,7 +19,7 @@ task_of s = content (bytes_of s)
 
 -- a sheet that was opened on these bytes
 pub record Reads (s : TaskSheet) (xs : List ℕ) : Type 0 where
-  pub opened : s.opened ≡ true
+  pub opened : IsSome s.opened
   pub bytes : bytes_of s ≡ xs
 
 -- the bytes are the sheet of a lawful task

@@ -48,9 +48,8 @@ fn read_header(bytes: &[u8]) -> Result<Header, Refused>
 
 // Where the list at `at` ends, if it is right and the offset in the field at `field` points to it.
 fn check_placed(bytes: &[u8], field: usize, bound: u16, at: usize) -> Result<usize, Refused>
-    requires field_in_bounds { field + 4 ≤ length bytes.now }
-    requires at_in_bounds { at ≤ length bytes.now }
-    ensures { Gives result (placed bytes.now field bound at) (λ q. (q ≡ past bytes.now at) × (q ≤ length bytes.now)) }
+    requires { field + 4 ≤ length bytes.now }
+    ensures { Gives result (placed bytes.now field bound at) (λ q. q ≡ past bytes.now at) }
 {
     begins_at(bytes, field, at)?;
     let n = field_at::<u16>(bytes, at)? as usize;
@@ -60,9 +59,8 @@ fn check_placed(bytes: &[u8], field: usize, bound: u16, at: usize) -> Result<usi
 
 // What is reached behind the next level, if it is right and all levels so far have at most `most` steps.
 fn check_level(bytes: &[u8], bound: u16, most: u16, from: Reached) -> Result<Reached, Refused>
-    requires at_in_bounds { from.at ≤ length bytes.now }
-    requires steps_le_most { from.steps ≤ most }
-    ensures { Gives result (level bytes.now bound most from.steps from.at) (λ q. (q.at ≡ past bytes.now from.at) × (q.at ≤ length bytes.now) × (q.steps ≡ from.steps + be16 bytes.now from.at) × (q.steps ≤ most)) }
+    requires { from.steps ≤ most }
+    ensures { Gives result (level bytes.now bound most from.steps from.at) (λ q. (q.at ≡ past bytes.now from.at) × (q.steps ≡ from.steps + be16 bytes.now from.at) × (q.steps ≤ most)) }
 {
     let n = field_at::<u16>(bytes, from.at)? as usize;
     if n == 0 {
@@ -86,11 +84,10 @@ fn check_level(bytes: &[u8], bound: u16, most: u16, from: Reached) -> Result<Rea
 
 // What is reached behind all levels, which are to begin at `at`, if they are right.
 fn check_levels(bytes: &[u8], counts: Header, at: usize) -> Result<Reached, Refused>
-    requires at_in_bounds { at ≤ length bytes.now }
     requires at_value { at ≡ level_begins_at bytes.now 0 }
     requires steps_value { counts.steps ≡ be16 bytes.now 2 }
     requires total_value { counts.total ≡ be16 bytes.now 6 }
-    ensures { Gives result (levels bytes.now counts.levels) (λ q. (q.at ≡ level_begins_at bytes.now counts.levels) × (q.at ≤ length bytes.now) × (q.steps ≡ steps_before bytes.now counts.levels)) }
+    ensures { Gives result (levels bytes.now counts.levels) (λ q. (q.at ≡ level_begins_at bytes.now counts.levels) × (q.steps ≡ steps_before bytes.now counts.levels)) }
 {
     let mut reached = Reached { at, steps: 0 };
     for _i in 0..counts.levels {

@@ -26,9 +26,7 @@ impl<'a> Item<'a> {
         ensures { result.now ≡ item_bytes self.now }
     {
         match self {
-            Item::Start(part) => part,
-            Item::Goal(part) => part,
-            Item::Level(part) => part,
+            Item::Start(part) | Item::Goal(part) | Item::Level(part) => part,
         }
     }
 

@@ -1,4 +1,5 @@
-ghost use Rattle.std.specs.Prelude.{◌≡◌, true, length};
+ghost use Rattle.std.specs.Prelude.{◌≡◌, true};
+ghost use Rattle.std.specs.Iterator.{item_count};
 ghost use Rattle.task_sheets.specs.Layout.{fits};
 ghost use Rattle.task_sheets.specs.Content.{levels_from};
 ghost use Rattle.task_sheets.specs.Opened.{rest, Turn};
@@ -15,18 +16,17 @@ impl<'a> Levels<'a> {
     {
         Levels { bytes, at, left }
     }
+}
 
-    // How many levels are still to come.
-    pub fn len(&self) -> usize
-        ensures { result ≡ length (rest self.now) }
-    {
-        self.left
-    }
+// Each level is handed out as its steps.
+impl<'a> Iterator for Levels<'a> {
+    type Item = Numbers<'a>;
 
-    // The steps of the next level, if one is left.
-    pub fn next(&mut self) -> Option<Numbers<'a>>
-        ensures { Turn self.old result self.new }
-    {
+    ghost next_gives = { Turn };
+
+    ghost remaining = { item_count rest };
+
+    fn next(&mut self) -> Option<Numbers<'a>> {
         if self.left == 0 {
             return None;
         }
@@ -35,5 +35,12 @@ impl<'a> Levels<'a> {
         self.at = end;
         self.left -= 1;
         Some(Numbers::new(&self.bytes[begin..end]))
+    }
+}
+
+impl<'a> ExactSizeIterator for Levels<'a> {
+    // How many levels are still to come.
+    fn len(&self) -> usize {
+        self.left
     }
 }

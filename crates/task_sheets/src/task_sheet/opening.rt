@@ -1,4 +1,4 @@
-ghost use Rattle.std.specs.Prelude.{◌≡◌, false, MatchResult};
+ghost use Rattle.std.specs.Prelude.{◌≡◌, None, MatchResult};
 ghost use Rattle.sheets.specs.declared.fault.Sheet.TheVariants.{Task as on_task};
 ghost use Rattle.sheets.specs.Verdicts.{verdict_on};
 ghost use Rattle.task_sheets.specs.Layout.{task_verdict};
@@ -9,20 +9,12 @@ use super::TaskSheet;
 use crate::checks::check_sheet;
 use sheets::{Sheet, SheetFault};
 
-// The sheet of the task of no facts, steps and levels.
-const BLANK: [u8; 24] = [
-    0, 0, 0, 0, 0, 0, 0, 0, 0, 0, 0, 20, 0, 0, 0, 22, 0, 0, 0, 24, 0, 0, 0, 0,
-];
-
 impl<'a> TaskSheet<'a> {
     // A sheet that is not opened yet: no facts, steps or levels.
     pub fn new() -> TaskSheet<'a>
-        ensures { (result.opened ≡ false) × (task_of result ≡ no_task) }
+        ensures { (result.opened ≡ None) × (task_of result ≡ no_task) }
     {
-        TaskSheet {
-            bytes: &BLANK,
-            opened: false,
-        }
+        TaskSheet { opened: None }
     }
 
     // Reads these bytes from now on, if they are a task sheet; else says what is wrong, and stays as it was.
@@ -32,13 +24,8 @@ impl<'a> TaskSheet<'a> {
         ensures law { MatchResult result (λ _. SaysOne bytes.now) (λ _. SaysNone bytes.now) }
         ensures one { OneSheetEach }
     {
-        match check_sheet(bytes) {
-            Ok(()) => {
-                self.bytes = bytes;
-                self.opened = true;
-                Ok(())
-            }
-            Err(refused) => Err(refused.on(Sheet::Task)),
-        }
+        check_sheet(bytes).map_err(|refused| refused.on(Sheet::Task))?;
+        self.opened = Some(bytes);
+        Ok(())
     }
 }

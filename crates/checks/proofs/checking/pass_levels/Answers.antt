@@ -1,46 +1,42 @@
-use Rattle.std.proofs.Common.{◌≡◌, ◌-◌, length, take, sym, ap, ◌∙◌, subst, arith, length-drop}
+use Rattle.std.proofs.Common.{◌≡◌, ◌+◌, length, take, sym, ap, ◌∙◌, subst, inl, arith}
 use Rattle.std.proofs.lemmas.Result.{err_from_is_err_and}
+use Rattle.facts.specs.Sets.{holds}
 use Rattle.plans.specs.Plans as plans
 use Rattle.task_sheets.specs.Parts.{numbers_of}
 use Rattle.task_sheets.specs.Opened.{task_of, rest}
+use Rattle.checks.specs.Levels.{LevelRefused, LevelPassed}
 use Rattle.checks.proofs.TaskLists.{sheet_lawful}
-use Rattle.checks.proofs.Passing.{next_of, level_room, level_lawful, level_refused, ascending, drafted_more, drafted_all}
+use Rattle.checks.proofs.Passing.{next_of, level_room, level_lawful, level_refused, ascending, drafted_more}
 use Rattle.checks.proofs.checking.pass_levels.Goals as goal
 
-pub overflow_add-number : goal.overflow_add-number
-overflow_add-number g c =
-    let n = next_of (task_of c.args.task.now).levels c.loop-level.number (numbers_of c.in-Some.level) (rest c.next.new.self) (rest c.loop-level.levels) c.loop-level.invariant.0 c.in-Some.ensures in
+pub loop-i-init-derived : goal.loop-i-init-derived
+loop-i-init-derived g c =
     let w = (sheet_lawful c.args.task.now).few_levels in
-    omega arith
+    let e : rest c.into_iter-i-iterator.result.iter ≡ (task_of c.args.task.now).levels = cc in
+    let z : c.into_iter-i-iterator.result.count ≡ 0 = cc in
+    ((tt, tt, inl (omega (arith, ap length e))), tt)
 
 pub copy_steps-count-requires : goal.copy_steps-count-requires
 copy_steps-count-requires g c =
     let t = task_of c.args.task.now in
     let w = sheet_lawful c.args.task.now in
-    let ps = numbers_of c.in-Some.level in
-    let n = next_of t.levels c.loop-level.number ps (rest c.next.new.self) (rest c.loop-level.levels) c.loop-level.invariant.0 c.in-Some.ensures in record {
-      level_len_bound = omega (arith, level_room (g.B.Book.model c.args.book.now) t c.loop-level.number c.loop-level.facts c.loop-level.draft c.loop-level.invariant.2 ps n.0 n.1 w);
-      by_index = λ j l. omega (arith, (level_lawful (g.B.Book.model c.args.book.now) t c.loop-level.number c.loop-level.facts c.loop-level.draft c.loop-level.invariant.2 ps n.0 n.1 w).ascending.below j l, w.few_steps);
+    let k = c.loop-i.i-iterator.count in
+    let n = next_of t.levels k (numbers_of c.in-Some.level) (rest c.next.new.self.iter) (rest c.loop-i.i-iterator.iter) c.loop-i.invariant.to_come c.in-Some.ensures.steps.0 in record {
+      level_len_bound = omega (arith, level_room (g.B.Book.model c.args.book.now) t k c.loop-i.facts c.loop-i.draft c.loop-i.invariant.passed _ n.0 n.1 w);
+      by_index = λ j l. omega (arith, (level_lawful (g.B.Book.model c.args.book.now) t k c.loop-i.facts c.loop-i.draft c.loop-i.invariant.passed _ n.0 n.1 w).ascending.below j l, w.few_steps);
     }
-
-pub slice_bounds-pass_level-end : goal.slice_bounds-pass_level-end
-slice_bounds-pass_level-end g c =
-    let t = task_of c.args.task.now in
-    let ps = numbers_of c.in-Some.level in
-    let n = next_of t.levels c.loop-level.number ps (rest c.next.new.self) (rest c.loop-level.levels) c.loop-level.invariant.0 c.in-Some.ensures in
-    let r = level_room (g.B.Book.model c.args.book.now) t c.loop-level.number c.loop-level.facts c.loop-level.draft c.loop-level.invariant.2 ps n.0 n.1 (sheet_lawful c.args.task.now) in
-    omega arith
 
 pub pass_level-requires : goal.pass_level-requires
 pass_level-requires g c =
     let t = task_of c.args.task.now in
     let w = sheet_lawful c.args.task.now in
+    let k = c.loop-i.i-iterator.count in
     let ps = numbers_of c.in-Some.level in
-    let n = next_of t.levels c.loop-level.number ps (rest c.next.new.self) (rest c.loop-level.levels) c.loop-level.invariant.0 c.in-Some.ensures in
-    let z : c.copy_steps-count.result - 0 ≡ c.copy_steps-count.result = omega arith in
-    let e : take (c.copy_steps-count.result - 0) c.copy_steps-count.new.steps ≡ ps = ap (λ i. take i c.copy_steps-count.new.steps) z ∙ c.copy_steps-count.ensures.steps in
-    let r = level_room (g.B.Book.model c.args.book.now) t c.loop-level.number c.loop-level.facts c.loop-level.draft c.loop-level.invariant.2 ps n.0 n.1 w in
-    let a = (level_lawful (g.B.Book.model c.args.book.now) t c.loop-level.number c.loop-level.facts c.loop-level.draft c.loop-level.invariant.2 ps n.0 n.1 w).ascending in (
+    let n = next_of t.levels k ps (rest c.next.new.self.iter) (rest c.loop-i.i-iterator.iter) c.loop-i.invariant.to_come c.in-Some.ensures.steps.0 in
+    let bs = take c.copy_steps-count.result c.copy_steps-count.new.steps in
+    let e : bs ≡ ps = c.copy_steps-count.ensures.steps in
+    let r = level_room (g.B.Book.model c.args.book.now) t k c.loop-i.facts c.loop-i.draft c.loop-i.invariant.passed ps n.0 n.1 w in
+    let a = (level_lawful (g.B.Book.model c.args.book.now) t k c.loop-i.facts c.loop-i.draft c.loop-i.invariant.passed ps n.0 n.1 w).ascending in (
       subst plans.Ascending (sym e) (ascending _ ps a),
       omega (arith, ap length e),
     )
@@ -48,27 +44,29 @@ pass_level-requires g c =
 pub returns-in_err-facts : goal.returns-in_err-facts
 returns-in_err-facts g c =
     let t = task_of c.args.task.now in
+    let m = g.B.Book.model c.args.book.now in
+    let k = c.loop-i.i-iterator.count in
     let ps = numbers_of c.in-Some.level in
-    let n = next_of t.levels c.loop-level.number ps (rest c.next.new.self) (rest c.loop-level.levels) c.loop-level.invariant.0 c.in-Some.ensures in
-    let z : c.copy_steps-count.result - 0 ≡ c.copy_steps-count.result = omega arith in
-    let e : take (c.copy_steps-count.result - 0) c.copy_steps-count.new.steps ≡ ps = ap (λ i. take i c.copy_steps-count.new.steps) z ∙ c.copy_steps-count.ensures.steps in
+    let n = next_of t.levels k ps (rest c.next.new.self.iter) (rest c.loop-i.i-iterator.iter) c.loop-i.invariant.to_come c.in-Some.ensures.steps.0 in
+    let bs = take c.copy_steps-count.result c.copy_steps-count.new.steps in
+    let e : bs ≡ ps = c.copy_steps-count.ensures.steps in
     let p = err_from_is_err_and c.from_residual.result c.from_residual.ensures.1 in
-    rw (p.1, p.2) (level_refused (g.B.Book.model c.args.book.now) t c.loop-level.number c.loop-level.facts c.loop-level.draft c.loop-level.invariant.2 _ n.0 (n.1 ∙ sym e) c.requires.0 _ c.in_err-facts.ensures)
+    let r = subst (λ i. LevelRefused m (holds c.loop-i.facts) bs (i + 1) c.in_err-facts.field-0.0) c.in-Some.ensures.steps.1 c.in_err-facts.ensures in
+    rw (p.1, p.2) (level_refused m t k c.loop-i.facts c.loop-i.draft c.loop-i.invariant.passed _ n.0 (n.1 ∙ sym e) c.requires.0 _ r)
 
-pub loop-level-preserved : goal.loop-level-preserved
-loop-level-preserved g c =
+pub loop-i-preserved : goal.loop-i-preserved
+loop-i-preserved g c =
     let t = task_of c.args.task.now in
+    let m = g.B.Book.model c.args.book.now in
+    let k = c.loop-i.i-iterator.count in
     let ps = numbers_of c.in-Some.level in
-    let n = next_of t.levels c.loop-level.number ps (rest c.next.new.self) (rest c.loop-level.levels) c.loop-level.invariant.0 c.in-Some.ensures in
-    let z : c.copy_steps-count.result - 0 ≡ c.copy_steps-count.result = omega arith in
-    let e : take (c.copy_steps-count.result - 0) c.copy_steps-count.new.steps ≡ ps = ap (λ i. take i c.copy_steps-count.new.steps) z ∙ c.copy_steps-count.ensures.steps in (
-      n.2,
-      omega arith,
-      drafted_more (g.B.Book.model c.args.book.now) t c.loop-level.number c.loop-level.facts c.loop-level.draft c.loop-level.invariant.2 _ n.0 (n.1 ∙ sym e) _ _ c.in_ok-facts.ensures,
-    )
-
-pub returns : goal.returns
-returns g c =
-    let t = task_of c.args.task.now in
-    let w = c.in_default.ensures in
-    drafted_all (g.B.Book.model c.args.book.now) t c.loop-level.number c.loop-level.facts c.loop-level.draft c.loop-level.invariant.2 (omega (arith, length-drop c.loop-level.number t.levels, ap length (c.loop-level.invariant.0 ∙ w.0)))
+    let n = next_of t.levels k ps (rest c.next.new.self.iter) (rest c.loop-i.i-iterator.iter) c.loop-i.invariant.to_come c.in-Some.ensures.steps.0 in
+    let bs = take c.copy_steps-count.result c.copy_steps-count.new.steps in
+    let e : bs ≡ ps = c.copy_steps-count.ensures.steps in
+    let on = c.in-Some.ensures.steps.2 in
+    let pass = subst (λ i. LevelPassed m (holds c.loop-i.facts) bs (i + 1) c.in_ok-facts.facts c.loop-i.draft c.pass_level.new.draft) c.in-Some.ensures.steps.1 c.in_ok-facts.ensures in
+    record {
+      to_come = rw on n.2;
+      room = omega arith;
+      passed = rw on (drafted_more m t k c.loop-i.facts c.loop-i.draft c.loop-i.invariant.passed _ n.0 (n.1 ∙ sym e) _ _ pass);
+    }

@@ -3,11 +3,9 @@ use Rattle.task_sheets.specs.Opened.{task_of, rest}
 use Rattle.checks.specs.Drafts.{Drafted}
 use Rattle.checks.proofs.checking.pass_levels.Given as goal
 
-abbrev pub invariant-loop-level : goal.invariant-loop-level
-invariant-loop-level g l =
-    (drop l.number (task_of l.task).levels ≡ rest l.levels)
-    × (length l.steps ≡ 256)
-    × Drafted (g.B.Book.model l.book) (task_of l.task) l.number l.facts l.draft
-
-abbrev pub decreases-loop-level : goal.decreases-loop-level
-decreases-loop-level g l = length (rest l.levels)
+abbrev pub invariant-loop-i : goal.invariant-loop-i
+invariant-loop-i g l = record {
+  to_come : drop l.i-iterator.count (task_of l.task).levels ≡ rest l.i-iterator.iter;
+  room : length l.steps ≡ 256;
+  passed : Drafted (g.B.Book.model l.book) (task_of l.task) l.i-iterator.count l.facts l.draft
+}

@@ -1,10 +1,12 @@
-use Rattle.std.proofs.Common.{sym, ◌∙◌, arith}
-use Rattle.task_sheets.proofs.Sound.{sheet_good, total_said}
-use Rattle.task_sheets.proofs.Items.{sheet_lawful}
+use Rattle.std.proofs.Common.{sym, ap, ◌∙◌, arith}
+use Rattle.sheets.specs.Fields.{be16}
+use Rattle.task_sheets.specs.Opened.{bytes_of}
+use Rattle.task_sheets.proofs.Sound.{total_said}
+use Rattle.task_sheets.proofs.Items.{good_sheet, sheet_lawful}
 use Rattle.task_sheets.proofs.task_sheet.TaskSheet.total.Goals as goal
 
 pub returns : goal.returns
 returns c =
-    let xs = c.args.self.now.bytes.now in
-    let e = c.get.ensures ∙ sym (total_said xs (sheet_good xs c.args.self.now.passes)) in
-    record { says = e; few = omega (arith, e, (sheet_lawful c.args.self.now).few_in_all) }
+    let s = c.args.self.now in
+    let e = c.get.ensures ∙ ap (λ xs. be16 xs 6) c.bytes.ensures ∙ sym (total_said (bytes_of s) (good_sheet s)) in
+    record { says = e; few = omega (arith, e, (sheet_lawful s).few_in_all) }

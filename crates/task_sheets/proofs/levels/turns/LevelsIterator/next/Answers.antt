@@ -1,6 +1,6 @@
 use Rattle.std.proofs.Common.{rules, arith}
 use Rattle.task_sheets.proofs.Laws.{next_fits, turn_fits, turn_is}
-use Rattle.task_sheets.proofs.levels.Levels.next.Goals as goal
+use Rattle.task_sheets.proofs.levels.turns.LevelsIterator.next.Goals as goal
 
 pub overflow_add-begin : goal.overflow_add-begin
 overflow_add-begin c = omega (arith, next_fits c.args.self.now.bytes.now c.args.self.now.at c.args.self.now.left (omega arith) c.args.self.now.room)
@@ -19,6 +19,6 @@ invariant_of-self c =
 pub slice_bounds-new-end : goal.slice_bounds-new-end
 slice_bounds-new-end c = omega (arith, next_fits c.args.self.now.bytes.now c.args.self.now.at c.args.self.now.left (omega arith) c.args.self.now.room, c.get.ensures)
 
-pub returns : goal.returns
-returns c =
+pub returns-clause-steps : goal.returns-clause-steps
+returns-clause-steps c =
     turn_is c.args.self.now.bytes.now c.args.self.now.at c.args.self.now.left c.get.result (omega arith) c.get.ensures c.args.self.now.room _ c.new.ensures

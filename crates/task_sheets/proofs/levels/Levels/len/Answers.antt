@@ -1,6 +1,0 @@
-use Rattle.std.proofs.Common.{sym}
-use Rattle.task_sheets.proofs.Sound.{length_levels_from}
-use Rattle.task_sheets.proofs.levels.Levels.len.Goals as goal
-
-pub returns : goal.returns
-returns c = sym (length_levels_from c.args.self.now.bytes.now c.args.self.now.at c.args.self.now.left)
