@@ -2,7 +2,8 @@
 ghost use Rattle.std.specs.Prelude.{◌≡◌, ◌+◌, ◌^◌, ◌<◌, length, nat_le};
 ghost use Rattle.sheets.specs.Writers.{Room, Writes, Skips};
 
-use crate::writing::put_bytes;
+use crate::field::Field;
+use crate::writing::{put, put_bytes};
 
 // A lent buffer, and the place up to which it is written.
 pub struct Writer<'a> {
@@ -58,5 +59,13 @@ impl<'a> Writer<'a> {
         ensures { Writes self.old bytes.now self.new }
     {
         self.at = put_bytes(self.out, self.at, bytes);
+    }
+
+    // Writes a number behind what is written, where the buffer has room for it.
+    pub fn put<T: Field>(&mut self, n: T)
+        requires { Room self.old T.WIDTH }
+        ensures { Writes self.old (T.bytes_of n) self.new }
+    {
+        self.at = put(self.out, self.at, n);
     }
 }
