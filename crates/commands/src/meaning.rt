@@ -2,6 +2,7 @@
 ghost use Rattle.commands.specs.Meanings.{Explained};
 
 // What the refusal with that number means, its number first; none where there is no such refusal.
+// A match on a number, since it is the number that a user types: no fault of one crate has all twenty refusals.
 pub fn explain(number: usize) -> Option<&'static str>
     ensures { Explained number result }
 {

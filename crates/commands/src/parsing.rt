@@ -10,22 +10,17 @@ use scripts::number;
 fn output(words: &[String]) -> Option<Output<'_>>
     ensures { AsksOutput (map string_bytes words.now) result }
 {
-    let Some((file, rest)) = first_word(words) else {
-        return None;
-    };
-    let Some((word, more)) = first_word(rest) else {
-        return Some(Output {
+    let (file, rest) = first_word(words)?;
+    match first_word(rest) {
+        None => Some(Output {
             file,
             replace: false,
-        });
-    };
-    if word == "replace" && first_word(more).is_none() {
-        Some(Output {
+        }),
+        Some(("replace", [])) => Some(Output {
             file,
             replace: true,
-        })
-    } else {
-        None
+        }),
+        Some(_) => None,
     }
 }
 
@@ -33,15 +28,9 @@ fn output(words: &[String]) -> Option<Output<'_>>
 fn only_number(words: &[String]) -> Option<usize>
     ensures { AsksNumber (map string_bytes words.now) result }
 {
-    match first_word(words) {
-        Some((word, rest)) => {
-            if first_word(rest).is_none() {
-                number(word)
-            } else {
-                None
-            }
-        }
-        None => None,
+    match first_word(words)? {
+        (word, []) => number(word),
+        _ => None,
     }
 }
 
@@ -49,40 +38,27 @@ fn only_number(words: &[String]) -> Option<usize>
 fn rack(words: &[String]) -> Option<Command<'_>>
     ensures { AsksRack (map string_bytes words.now) result }
 {
-    let Some((loggers, words)) = first_word(words) else {
-        return None;
-    };
-    let Some((baths, words)) = first_word(words) else {
-        return None;
-    };
-    let Some(loggers) = number(loggers) else {
-        return None;
-    };
-    let Some(baths) = number(baths) else {
-        return None;
-    };
-    match output(words) {
-        Some(output) => Some(Command::Rack {
-            loggers,
-            baths,
-            output,
-        }),
-        None => None,
-    }
+    let (loggers, words) = first_word(words)?;
+    let (baths, words) = first_word(words)?;
+    let loggers = number(loggers)?;
+    let baths = number(baths)?;
+    let output = output(words)?;
+    Some(Command::Rack {
+        loggers,
+        baths,
+        output,
+    })
 }
 
 // The command that has no more words than this one.
 fn alone<'a>(word: &str) -> Option<Command<'a>>
     ensures { AsksCommand (word.now ∷ []) result }
 {
-    if word == "check" {
-        Some(Command::Check)
-    } else if word == "run" {
-        Some(Command::Run)
-    } else if word == "help" {
-        Some(Command::Help)
-    } else {
-        None
+    match word {
+        "check" => Some(Command::Check),
+        "run" => Some(Command::Run),
+        "help" => Some(Command::Help),
+        _ => None,
     }
 }
 
@@ -93,21 +69,11 @@ pub fn parse(words: &[String]) -> Option<Command<'_>>
     let Some((word, rest)) = first_word(words) else {
         return Some(Command::List);
     };
-    if word == "rack" {
-        rack(rest)
-    } else if word == "recast" {
-        match output(rest) {
-            Some(output) => Some(Command::Recast(output)),
-            None => None,
-        }
-    } else if word == "explain" {
-        match only_number(rest) {
-            Some(number) => Some(Command::Explain(number)),
-            None => None,
-        }
-    } else if first_word(rest).is_none() {
-        alone(word)
-    } else {
-        None
+    match word {
+        "rack" => rack(rest),
+        "recast" => Some(Command::Recast(output(rest)?)),
+        "explain" => Some(Command::Explain(only_number(rest)?)),
+        _ if rest.is_empty() => alone(word),
+        _ => None,
     }
 }
