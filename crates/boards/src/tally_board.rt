@@ -23,7 +23,7 @@ impl TallyBoard {
     pub fn count(&self, p: usize) -> u32
         ensures { result ≡ counted self.now.cells p }
     {
-        if p < 512 { self.cells[p] } else { 0 }
+        self.cells.get(p).copied().unwrap_or(0)
     }
 }
 
@@ -49,6 +49,7 @@ impl Board for TallyBoard {
         ensures after { (q : ℕ) → in_cells self.new.cells q ≡ (in_cells self.old.cells q || (result && q == p)) }
         ensures counts { (q : ℕ) → counted self.new.cells q ≡ (if result && q == p then raised (counted self.old.cells q) else counted self.old.cells q) }
     {
+        // Once a borrow by get_mut is over, the check knows no element of the array: so cells are written by their index.
         if p >= 512 {
             return false;
         }

@@ -1,5 +1,6 @@
 -- What a step book means, and what makes it lawful.
-use Rattle.std.specs.Prelude.{◌≡◌, ℕ, zero, suc, ◌+◌, ◌≤◌, Bool, false, cond, not, ◌&&◌, ◌||◌}
+use Rattle.std.specs.Prelude.{◌≡◌, ℕ, ◌≤◌, Bool, false, not, ◌&&◌, ◌||◌}
+unfoldable pub use Rattle.facts.specs.Sets.{count}
 
 -- a set of facts, by asking of each number whether it is in
 abbrev pub Facts : Type 0
@@ -13,11 +14,6 @@ pub record Model : Type 0 where
   pub adds : ℕ → Facts
   pub deletes : ℕ → Facts
   pub seconds : ℕ → ℕ
-
--- how many numbers below n are in the set
-unfoldable pub count : Facts → ℕ → ℕ
-count P zero = 0
-count P (suc n) = cond (P n) 1 0 + count P n
 
 -- sets of facts by step: none past the steps, no fact past the facts, at most 250 facts to a step
 pub record StepSets (facts steps : ℕ) (sets : ℕ → Facts) : Type 0 where

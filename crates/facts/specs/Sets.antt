@@ -1,5 +1,5 @@
 -- Which numbers a row of words of 64 bits holds.
-use Rattle.std.specs.Prelude.{◌≡◌, ℕ, zero, suc, ◌/◌, ◌%◌, ◌^◌, ◌<◌, ◌≤◌, Bool, true, false, ◌&&◌, List, ◌==◌, slice_index}
+use Rattle.std.specs.Prelude.{◌≡◌, ℕ, zero, suc, ◌+◌, ◌/◌, ◌%◌, ◌^◌, ◌<◌, ◌≤◌, Bool, true, false, cond, ◌&&◌, List, Option, MatchOption, ◌==◌, slice_index}
 use Rattle.std.specs.Bool.{beq}
 
 -- bit k of n
@@ -21,7 +21,17 @@ pub record Next (within : ℕ → Bool) (p n : ℕ) : Type 0 where
   pub here : within n ≡ true
   pub before : (q : ℕ) → p ≤ q → q < n → within q ≡ false
 
+-- a step over the numbers of a set, all of them below a bound: the next number from a place on comes, and the place moves past it; or there is none
+abbrev pub GivesNext : {S : Type 0} → (S → List ℕ) → (S → ℕ) → ℕ → S → Option ℕ → S → Type 0
+GivesNext words from bound s r t = (words t ≡ words s)
+    × MatchOption r ((q : ℕ) → from s ≤ q → holds (words s) q ≡ false) (λ n. (n < bound) × Next (holds (words s)) (from s) n × (from t ≡ n + 1))
+
 -- whether two sets have the same numbers below n
 unfoldable pub same_below : ℕ → (ℕ → Bool) → (ℕ → Bool) → Bool
 same_below zero f g = true
 same_below (suc n) f g = beq (f n) (g n) && same_below n f g
+
+-- how many numbers below n are in the set
+unfoldable pub count : (ℕ → Bool) → ℕ → ℕ
+count P zero = 0
+count P (suc n) = cond (P n) 1 0 + count P n

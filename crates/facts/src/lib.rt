@@ -3,7 +3,7 @@
 
 ghost use Rattle.std.specs.Prelude.{◌≡◌, ℕ, ◌+◌, ◌-◌, ◌*◌, ◌^◌, ◌<◌, ◌≤◌, Bool, true, false, not, ◌&&◌, ◌||◌, length, if◌then◌else◌, MatchBool, MatchOption, ◌==◌, nat_lt, slice_index};
 ghost use Rattle.std.specs.Iterator.{at_most};
-ghost use Rattle.facts.specs.Sets.{holds, First, Next, same_below};
+ghost use Rattle.facts.specs.Sets.{holds, count, First, Next, GivesNext, same_below};
 ghost use Rattle.facts.specs.Laws.{same_numbers, same_numbers-partial};
 
 use std::array::from_fn;
@@ -187,6 +187,13 @@ impl<const W: usize> NumberSet<W> {
     {
         Members { set: self, from: 0 }
     }
+
+    // How many numbers the set holds.
+    pub fn len(&self) -> usize
+        ensures { result ≡ count (holds self.now.words) (64 * W) }
+    {
+        self.iter().count()
+    }
 }
 
 // The numbers of a set from `from` on, in ascending order.
@@ -199,7 +206,7 @@ pub struct Members<'a, const W: usize> {
 impl<'a, const W: usize> Iterator for Members<'a, W> {
     type Item = usize;
 
-    ghost next_gives = { λ s r t. (t.set.now.words ≡ s.set.now.words) × MatchOption r ((q : ℕ) → s.from ≤ q → holds s.set.now.words q ≡ false) (λ n. (n < 64 * W) × Next (holds s.set.now.words) s.from n × (t.from ≡ n + 1)) };
+    ghost next_gives = { GivesNext (λ s. s.set.now.words) (λ s. s.from) (64 * W) };
 
     ghost remaining = { λ s. at_most (64 * W - s.from) };
 
