@@ -50,7 +50,7 @@ in_set P n i l =
     (and_parts (P p) (ltb p n) (sym (listed_members P n p) ∙ says_listed (members P n) p i l refl)).0
 
 -- the numbers of a set, written one after the other
-twos_push : (ps : List ℕ) (p : ℕ) → twos (ps ++ (p ∷ [])) ≡ twos ps ++ two p
+pub twos_push : (ps : List ℕ) (p : ℕ) → twos (ps ++ (p ∷ [])) ≡ twos ps ++ two p
 twos_push [] p = refl
 twos_push (q ∷ ps) p = ap (λ r. two q ++ r) (twos_push ps p)
 

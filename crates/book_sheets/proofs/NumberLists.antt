@@ -1,0 +1,33 @@
+-- The numbers of a set, written one after the other by a writer.
+use Rattle.std.proofs.Common.{◌≡◌, ℕ, zero, suc, ◌+◌, ◌*◌, ◌<◌, ◌≤◌, false, ◌++◌, length, sym, ap, ◌∙◌, inl, inr, add-one, arith}
+use Rattle.std.proofs.lemmas.Bool.{cases_lt}
+use Rattle.books.specs.Book.{Facts}
+use Rattle.books.specs.Listed.{members}
+use Rattle.books.proofs.Members.{members_hit, members_miss}
+use Rattle.facts.specs.Sets.{Next}
+use Rattle.sheets.specs.declared.writer.Writer.{Writer}
+use Rattle.sheets.specs.Fields.{two, twos}
+use Rattle.sheets.specs.Writers.{Room, Writes}
+use Rattle.sheets.proofs.Writers.{writes_on, writes_as}
+use Rattle.book_sheets.proofs.Listing.{member_room, twos_push}
+
+-- a set without numbers from p up to n
+pub members_gap : (P : Facts) (p n : ℕ) → p ≤ n → ((q : ℕ) → p ≤ q → q < n → P q ≡ false) → members P n ≡ members P p
+members_gap P p zero h none = let e : 0 ≡ p = omega arith in ap (members P) e
+members_gap P p (suc n) h none = elim (cases_lt n p) [
+  | inl l ↦ let e : suc n ≡ p = omega arith in ap (members P) e
+  | inr l ↦ ap (members P) (sym (add-one n)) ∙ members_miss P n (none n l (omega arith)) ∙ members_gap P p n l (λ q k m. none q k (omega arith))
+]
+
+-- the next number of the set
+pub next_room : (P : Facts) (k p n : ℕ) → Next P p n → n < k → length (twos (members P p)) + 2 ≤ 2 * length (members P k)
+next_room P k p n h l =
+    let e = ap (λ ps. length (twos ps)) (members_gap P p n h.from h.before) in
+    let r = member_room P k n l h.here in
+    omega arith
+
+pub next_put : {u v w : Writer} (P : Facts) (p n : ℕ) → Room u 0 → Next P p n → Writes u (twos (members P p)) v → Writes v (two n) w → Writes u (twos (members P (n + 1))) w
+next_put P p n r h before here =
+    let e : twos (members P (n + 1)) ≡ twos (members P p) ++ two n =
+    ap twos (members_hit P n h.here) ∙ twos_push (members P n) n ∙ ap (λ ps. twos ps ++ two n) (members_gap P p n h.from h.before) in
+    writes_as (sym e) (writes_on r before here)
