@@ -13,20 +13,20 @@ use Rattle.cards.specs.declared.fault.RunFault.TheVariants.{Plan, InHand as Step
 
 same_state : (x y : State) → (x ≡ y) ⊎ (x ≡ y → ⊥)
 same_state Waiting Waiting = inl refl
-same_state Waiting InHand = inr (λ e. let z : ◌≡◌ {A = ℕ} 0 1 = cc in omega arith)
-same_state Waiting Finished = inr (λ e. let z : ◌≡◌ {A = ℕ} 0 1 = cc in omega arith)
-same_state InHand Waiting = inr (λ e. let z : ◌≡◌ {A = ℕ} 0 1 = cc in omega arith)
+same_state Waiting InHand = inr (λ e. cc)
+same_state Waiting Finished = inr (λ e. cc)
+same_state InHand Waiting = inr (λ e. cc)
 same_state InHand InHand = inl refl
-same_state InHand Finished = inr (λ e. let z : ◌≡◌ {A = ℕ} 0 1 = cc in omega arith)
-same_state Finished Waiting = inr (λ e. let z : ◌≡◌ {A = ℕ} 0 1 = cc in omega arith)
-same_state Finished InHand = inr (λ e. let z : ◌≡◌ {A = ℕ} 0 1 = cc in omega arith)
+same_state InHand Finished = inr (λ e. cc)
+same_state Finished Waiting = inr (λ e. cc)
+same_state Finished InHand = inr (λ e. cc)
 same_state Finished Finished = inl refl
 
 pub finish_begin : Finish ≡ Begin → ⊥
-finish_begin e = let z : ◌≡◌ {A = ℕ} 0 1 = cc in omega arith
+finish_begin e = cc
 
 pub put_back_begin : PutBack ≡ Begin → ⊥
-put_back_begin e = let z : ◌≡◌ {A = ℕ} 0 1 = cc in omega arith
+put_back_begin e = cc
 
 met : (x y : Bool) → (not x || y) ≡ true → x ≡ true → y ≡ true
 met x y e f = grind arith

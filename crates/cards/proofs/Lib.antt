@@ -1,12 +1,11 @@
 pub mod Fresh
-pub mod Working
 pub mod Answering
 pub mod Replies
 pub mod Spans
+pub mod Lowest
+pub mod Trails
 pub mod Running
 pub mod Requesting
-pub mod Trails
-pub mod RequestTrails
 pub mod Starting
 pub mod Drawing
 pub mod Tiny

@@ -1,7 +1,7 @@
 -- However the places of an issued card are begun, finished and put back, what a run keeps stays kept.
-use Rattle.std.proofs.Common.{◌≡◌, ℕ, zero, suc, ◌<◌, Bool, true, false, cond, not, ◌&&◌, ◌||◌, eqb, ltb, ◌⊎◌, List, [], ◌∷◌, Ok, Err, Result, sym, refl, ap, ◌∙◌, subst, inl, inr, arith}
+use Rattle.std.proofs.Common.{◌≡◌, ℕ, zero, suc, ◌<◌, Bool, true, false, cond, not, ◌&&◌, ◌||◌, eqb, ◌⊎◌, Ok, Err, Result, sym, refl, ap, ◌∙◌, subst, inl, inr, arith}
 use mathlib.Core.Path.{fun_ext}
-use Rattle.std.proofs.lemmas.Bool.{both_ways, cases_eq, cases_lt, eqb-true, eq-eqb, ne_eqb, or_cases, or_right, lt-ltb}
+use Rattle.std.proofs.lemmas.Bool.{both_ways, cases_eq, eqb-true, eq-eqb, ne_eqb, or_cases, or_right}
 use Rattle.books.specs.Book.{Model, Facts, Lawful, after}
 use Rattle.books.specs.Listed.{listed}
 use Rattle.plans.specs.Places.{Places, Precedes, InOrder, Closed, Ready, left, left_below, all}
@@ -13,19 +13,21 @@ use Rattle.task_sheets.specs.Content.{Task}
 use Rattle.cards.specs.States.{finished}
 use Rattle.cards.specs.Moments.{Setting, Moment, done, turned, worked}
 use Rattle.cards.specs.Answers.{Granted, Answered}
-use Rattle.cards.specs.Runs.{Issued, Remains, GoesOn, Kept, Made, Trail, Throughout, ByRule, RunLaw}
+use Rattle.cards.specs.Runs.{Issued, Remains, GoesOn, Kept, CallAnswered, CallRightly, RunLaw, EachRun}
 use Rattle.cards.specs.declared.state.State.{State}
 use Rattle.cards.specs.declared.state.State.TheVariants.{Waiting, InHand, Finished}
 use Rattle.cards.specs.declared.state.Event.{Event}
 use Rattle.cards.specs.declared.state.Event.TheVariants.{Begin, Finish, PutBack}
 use Rattle.cards.specs.declared.fault.RunFault.{RunFault}
-use Rattle.cards.proofs.Answering.{finish_begin, moved, next, next_is, granted_by_rule}
+use Rattle.cards.proofs.Answering.{finish_begin, moved, next, next_is, some_answer, one_answer, granted_by_rule}
+use Rattle.cards.proofs.Spans.{cut}
+use Rattle.cards.proofs.Trails.{one_trail, run_kept}
 
 not_finished : Finished ≡ InHand → ⊥
-not_finished e = let z : ◌≡◌ {A = ℕ} 0 1 = cc in omega arith
+not_finished e = cc
 
 not_waiting : Waiting ≡ InHand → ⊥
-not_waiting e = let z : ◌≡◌ {A = ℕ} 0 1 = cc in omega arith
+not_waiting e = cc
 
 unfinished : (x : State) → finished x ≡ false → (x ≡ InHand) ⊎ (x ≡ Waiting)
 unfinished Waiting e = inr refl
@@ -103,9 +105,6 @@ module _ (m : Model) (o : Places) (up : InOrder m o) (E : Facts) where
             ∙ sym (commuting m o up E (done b) w.closed h l (ap finished e) p) ∙ ap (λ d. left m o E d p) q;
       }
 
-fits : (add low : Bool) → (low ≡ false → add ≡ false) → (add && low) ≡ add
-fits add low f = grind arith
-
 module _ (s : Setting) (law : Lawful s.book) (t : Task) (b₀ : Moment) (issued : Issued s t b₀) where
   up : InOrder s.book s.places
   up = ascent s.book t.levels s.places issued.places
@@ -117,11 +116,7 @@ module _ (s : Setting) (law : Lawful s.book) (t : Task) (b₀ : Moment) (issued 
   roomy : (board : Facts) (h q : ℕ) → worked s board h q ≡ after s.book board (s.places.step h) q
   roomy board h q =
       ap (λ x. (board q && not (s.book.deletes (s.places.step h) q)) || x)
-      (fits (s.book.adds (s.places.step h) q) (ltb q s.span)
-      (λ e. elim (cases_lt q s.span) [
-        | inl l ↦ absurd (both_ways _ e (lt-ltb q s.span l))
-        | inr l ↦ law.adds.no_fact (s.places.step h) q (omega (arith, issued.room))
-      ]))
+      (cut (s.book.adds (s.places.step h) q) s.span q (λ l. law.adds.no_fact (s.places.step h) q (omega (arith, issued.room))))
 
   granted : (b : Moment) (e : Event) (p : ℕ) → Granted s b e p → Fine b → Fine (moved s b e p)
   granted b Begin p g w = quiet s.book s.places up _ b p InHand refl (ap finished g.state)
@@ -169,14 +164,11 @@ module _ (s : Setting) (law : Lawful s.book) (t : Task) (b₀ : Moment) (issued 
         ∙ ending s.book law s.places up t.levels (laying s.book t.levels s.places issued.places) (listed t.start) q;
   }
 
-  pub throughout : (b : Moment) (calls : List Made) → Fine b → Trail s b calls → Throughout (Kept s t) b calls
-  throughout b [] f w = kept b f
-  throughout b (c ∷ rest) f w = (kept b f, throughout c.after rest (onward b c.attempt.event c.attempt.place c.answer c.after w.0 f) w.1)
-
-by_rule : (s : Setting) (b : Moment) (calls : List Made) → Trail s b calls → ByRule s b calls
-by_rule s b [] w = tt
-by_rule s b (c ∷ rest) w = (granted_by_rule s b c.attempt.event c.attempt.place c.answer c.after w.0, by_rule s c.after rest w.1)
-
 pub run_law : RunLaw
 run_law s law t b issued calls w =
-    record { kept = throughout s law t b issued b calls (started s law t b issued) w; granted = by_rule s b calls w }
+    run_kept CallAnswered CallRightly (λ s b c r a w. granted_by_rule s b c.event c.place r a w) s (Kept s t) (Fine s law t b issued) (kept s law t b issued)
+    (λ d c r a v f. onward s law t b issued d c.event c.place r a v f) b calls (started s law t b issued) w
+
+pub each_run : EachRun
+each_run s b asked =
+    one_trail CallAnswered (record { some = λ s b c. some_answer s b c.event c.place; one = λ s b c r r' a a' w w'. one_answer s b c.event c.place r r' a a' w w' }) s b asked

@@ -1,25 +1,16 @@
--- A card and a board after an issue.
-use Rattle.std.proofs.Common.{◌≡◌, ℕ, ◌<◌, ◌≤◌, Bool, ◌&&◌, ltb, Ok, Err, Result, sym, refl, ap, ◌∙◌, arith}
+-- No issue has two answers.
+use Rattle.std.proofs.Common.{◌≡◌, ℕ, ◌<◌, ◌≤◌, Ok, Err, Result, sym, refl, ap, ◌∙◌, arith}
 use Rattle.std.proofs.lemmas.Bool.{both_ways}
 use Rattle.books.specs.Book.{Model, Facts}
-use Rattle.books.specs.Listed.{listed}
-use Rattle.task_sheets.specs.Content.{Task, LawfulTask}
+use Rattle.task_sheets.specs.Content.{Task}
 use Rattle.checks.specs.Checked.{Checked}
 use Rattle.checks.specs.declared.fault.PlanFault.{PlanFault}
 use Rattle.checks.proofs.Answers.{one_answer}
-use Rattle.checks.proofs.TaskLists.{listed_below}
 use Rattle.cards.specs.Cards.{SomeInHand, NoneInHand}
 use Rattle.cards.specs.Issues.{IssueAnswered, OneIssueAnswer}
 use Rattle.cards.specs.declared.card.Card.{Card}
 use Rattle.cards.specs.declared.fault.RunFault.{RunFault}
 use Rattle.cards.specs.declared.fault.RunFault.TheVariants.{Plan, InHand, SpanTooSmall, NoPlace, WrongState, Unfinished, TooShort}
-
-swap : (x y : Bool) → (x && y) ≡ (y && x)
-swap x y = grind arith
-
--- every start fact is below a span that has room for all facts
-pub start_held : (t : Task) → LawfulTask t → (span q : ℕ) → t.facts ≤ span → (listed t.start q && ltb q span) ≡ listed t.start q
-start_held t law span q room = swap (listed t.start q) (ltb q span) ∙ listed_below t.start span q (λ j l. omega (arith, law.start.below j l))
 
 module _ (m : Model) (span : ℕ) (t : Task) (c : Card) where
   -- how an issue stands
@@ -46,9 +37,7 @@ module _ (m : Model) (span : ℕ) (t : Task) (c : Card) where
   standing (Err (TooShort f)) c' board' w = absurd w
 
   sound : (f : PlanFault) → Checked m t (Err f) → Checked m t (Ok tt) → ⊥
-  sound f v w =
-      let e = one_answer m t (Err f) (Ok tt) v w in
-      let z : ◌≡◌ {A = ℕ} 0 1 = cc in omega arith
+  sound f v w = let e = one_answer m t (Err f) (Ok tt) v w in cc
 
   idle : SomeInHand c → NoneInHand c → ⊥
   idle h n = both_ways _ (n h.0 h.1) h.2

@@ -87,12 +87,12 @@ clears b p f (suc u) l e = absurd (first_only u p e)
 
 abbrev calls : List Made
 calls =
-    record { request = Call (record { event = Begin; place = 1 }); reply = Refused (Unfinished 0); after = start }
-    ∷ record { request = Call (record { event = Begin; place = 0 }); reply = granted; after = begun₀ }
-    ∷ record { request = Call (record { event = Finish; place = 0 }); reply = granted; after = finished₀ }
-    ∷ record { request = Call (record { event = Begin; place = 1 }); reply = granted; after = begun₁ }
-    ∷ record { request = Call (record { event = Begin; place = 2 }); reply = granted; after = begun₂ }
-    ∷ record { request = Look 2; reply = Seen 2 2 InHand; after = begun₂ }
+    record { asked = Call (record { event = Begin; place = 1 }); told = Refused (Unfinished 0); after = start }
+    ∷ record { asked = Call (record { event = Begin; place = 0 }); told = granted; after = begun₀ }
+    ∷ record { asked = Call (record { event = Finish; place = 0 }); told = granted; after = finished₀ }
+    ∷ record { asked = Call (record { event = Begin; place = 1 }); told = granted; after = begun₁ }
+    ∷ record { asked = Call (record { event = Begin; place = 2 }); told = granted; after = begun₂ }
+    ∷ record { asked = Look 2; told = Seen 2 2 InHand; after = begun₂ }
     ∷ []
 
 goes : (b : Moment) (e : Event) (p : ℕ) → Moved setting b e p (moved setting b e p)

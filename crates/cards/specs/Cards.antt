@@ -6,10 +6,12 @@ use Rattle.checks.specs.Tables.{blank, places_in}
 use Rattle.checks.specs.declared.arrangement.Place.{Place}
 use Rattle.cards.specs.States.{finished, held}
 use Rattle.cards.specs.Moments.{Setting, Moment}
+use Rattle.cards.specs.Answers.{Answered}
 use Rattle.cards.specs.Replies.{Replied}
 use Rattle.cards.specs.declared.card.Card.{Card}
 use Rattle.cards.specs.declared.state.State.{State}
 use Rattle.cards.specs.declared.state.State.TheVariants.{Waiting}
+use Rattle.cards.specs.declared.state.Event.{Event}
 use Rattle.cards.specs.declared.request.Request.{Request}
 use Rattle.cards.specs.declared.request.Reply.{Reply}
 use Rattle.cards.specs.declared.fault.RunFault.{RunFault}
@@ -49,6 +51,10 @@ setting_of m span c = record { book = m; span = span; places = places_in c.plan.
 -- the moment of a card beside a board that holds these facts
 abbrev pub moment_of : Card → Facts → Moment
 moment_of c board = record { state = state_of c; board = board }
+
+-- the answer to an event at place p of the card c, beside a book and a board of that span; c' and board' stand after it
+abbrev pub Called : Model → ℕ → Card → Facts → Event → ℕ → Result (Unit {0}) RunFault → Card → Facts → Type 0
+Called m span c board e p r c' board' = Answered (setting_of m span c) (moment_of c board) e p r (moment_of c' board')
 
 -- the reply to a request on the card c, beside a book and a board of that span; c' and board' stand after it
 abbrev pub RequestReplied : Model → ℕ → Card → Facts → Request → Reply → Card → Facts → Type 0

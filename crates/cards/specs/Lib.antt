@@ -4,6 +4,7 @@ pub mod Moments
 pub mod Answers
 pub mod Replies
 pub mod Cards
+pub mod Trails
 pub mod Runs
 pub mod Requests
 pub mod Issues

@@ -1,5 +1,5 @@
 -- Runs: how things stand after an issue, and what holds at every moment from then on, whatever is called.
-use Rattle.std.specs.Prelude.{◌≡◌, ℕ, ◌<◌, ◌≤◌, false, ◌⊎◌, ◌↔◌, List, [], ◌∷◌, map, Ok, Result, ◌≢◌}
+use Rattle.std.specs.Prelude.{◌≡◌, ℕ, ◌<◌, ◌≤◌, false, ◌⊎◌, ◌↔◌, List, Ok, Result, ◌≢◌}
 use Rattle.books.specs.Book.{Lawful}
 use Rattle.books.specs.Listed.{listed}
 use Rattle.plans.specs.Steps.{Disturb, Met}
@@ -9,6 +9,8 @@ use Rattle.task_sheets.specs.Content.{Task}
 use Rattle.checks.specs.Checked.{Checked}
 use Rattle.checks.specs.Tables.{Exact}
 use Rattle.cards.specs.Moments.{Setting, Moment, done}
+use Rattle.cards.specs.Trails as trails
+pub use Rattle.cards.specs.Trails.{Throughout, after_all}
 use Rattle.cards.specs.Answers.{Granted, Answered}
 use Rattle.cards.specs.declared.state.State.TheVariants.{Waiting, InHand, Finished}
 use Rattle.cards.specs.declared.state.Event.TheVariants.{Begin, Finish}
@@ -47,47 +49,44 @@ pub record Kept (s : Setting) (t : Task) (b : Moment) : Type 0 where
   -- when every place is finished, the board holds the plan's final facts
   pub final : ((p : ℕ) → p < s.places.size → b.state p ≡ Finished) → (q : ℕ) → b.board q ≡ finally s.book (listed t.start) t.levels q
 
+-- the law of runs, for a kind of asking: whatever is asked after the issue of an accepted plan, every moment is kept, and each
+-- asking is told by the rule of its moment
+module _ {Ask Tell : Type 0} (Told : Setting → Moment → Ask → Tell → Moment → Type 0) (Right : Setting → Moment → Ask → Tell → Type 0) where
+  abbrev pub LawOf : Type 0
+  LawOf =
+      (s : Setting) → Lawful s.book → (t : Task) (b : Moment) → Issued s t b
+      → (calls : List (trails.Made Ask Tell)) → trails.Trail Told s b calls → trails.RunKept Right (Kept s t) s b calls
+
+-- a call is answered so, and granted exactly where the rule grants it
+abbrev pub CallAnswered : Setting → Moment → Attempt → Result (Unit {0}) RunFault → Moment → Type 0
+CallAnswered s b c r a = Answered s b c.event c.place r a
+
+abbrev pub CallRightly : Setting → Moment → Attempt → Result (Unit {0}) RunFault → Type 0
+CallRightly s b c r = (r ≡ Ok tt) ↔ Granted s b c.event c.place
+
 -- a call that was made: what was asked, what was answered, and the moment after it
-pub record Made : Type 0 where
-  pub attempt : Attempt
-  pub answer : Result (Unit {0}) RunFault
-  pub after : Moment
+abbrev pub Made : Type 0
+Made = trails.Made Attempt (Result (Unit {0}) RunFault)
 
 -- calls made one after the other from a moment on, granted or refused, each answered upon the moment that the last one left
 abbrev pub Trail : Setting → Moment → List Made → Type 0
-Trail s b [] = Unit {0}
-Trail s b (c ∷ rest) = Answered s b c.attempt.event c.attempt.place c.answer c.after × Trail s c.after rest
-
--- every moment on the way is such, the first and the last included
-abbrev pub Throughout : (Moment → Type 0) → Moment → List Made → Type 0
-Throughout P b [] = P b
-Throughout P b (c ∷ rest) = P b × Throughout P c.after rest
-
--- the moment after the last call
-abbrev pub after_all : Moment → List Made → Moment
-after_all b [] = b
-after_all b (c ∷ rest) = after_all c.after rest
+Trail = trails.Trail CallAnswered
 
 -- each call is granted exactly where the rule grants it
 abbrev pub ByRule : Setting → Moment → List Made → Type 0
-ByRule s b [] = Unit {0}
-ByRule s b (c ∷ rest) = ((c.answer ≡ Ok tt) ↔ Granted s b c.attempt.event c.attempt.place) × ByRule s c.after rest
+ByRule = trails.ByRule CallRightly
 
 -- what holds of a run from a moment on
-pub record RunKept (s : Setting) (t : Task) (b : Moment) (calls : List Made) : Type 0 where
-  pub kept : Throughout (Kept s t) b calls
-  pub granted : ByRule s b calls
+abbrev pub RunKept : Setting → Task → Moment → List Made → Type 0
+RunKept s t b calls = trails.RunKept CallRightly (Kept s t) s b calls
 
 -- the law of runs: however the places of an accepted plan are begun, finished and put back after its issue
 abbrev pub RunLaw : Type 0
-RunLaw = (s : Setting) → Lawful s.book → (t : Task) (b : Moment) → Issued s t b → (calls : List Made) → Trail s b calls → RunKept s t b calls
+RunLaw = LawOf CallAnswered CallRightly
 
 -- whatever is asked, in whatever order, leaves one trail and no other
-pub record OneTrail (s : Setting) (b : Moment) (asked : List Attempt) : Type 0 where
-  pub calls : List Made
-  pub asks : map (λ c. c.attempt) calls ≡ asked
-  pub trail : Trail s b calls
-  pub only : (calls' : List Made) → map (λ c. c.attempt) calls' ≡ asked → Trail s b calls' → calls ≡ calls'
+abbrev pub OneTrail : Setting → Moment → List Attempt → Type 0
+OneTrail = trails.OneTrail CallAnswered
 
 abbrev pub EachRun : Type 0
 EachRun = (s : Setting) (b : Moment) (asked : List Attempt) → OneTrail s b asked

@@ -6,7 +6,8 @@ use Rattle.plans.specs.Tiny.{tiny, plan, places}
 use Rattle.task_sheets.specs.Content.{Task}
 use Rattle.cards.specs.Moments.{Setting, Moment}
 use Rattle.cards.specs.Runs.{Issued}
-use Rattle.cards.specs.Requests.{Made, Trail, after_all}
+use Rattle.cards.specs.Trails.{after_all}
+use Rattle.cards.specs.Requests.{Made, Trail}
 use Rattle.cards.specs.declared.state.State.TheVariants.{Waiting, InHand, Finished}
 use Rattle.cards.specs.declared.state.Event.TheVariants.{Begin, Finish}
 use Rattle.cards.specs.declared.request.Request.{Request}
@@ -34,7 +35,7 @@ pub record PremisesMet : Type 0 where
   pub lawful : Lawful setting.book
   pub issued : Issued setting task start
   pub calls : List Made
-  pub asks : map (λ c. c.request) calls ≡ asked
+  pub asks : map (λ c. c.asked) calls ≡ asked
   pub trail : Trail setting start calls
   pub finished : (after_all start calls).state 0 ≡ Finished
   pub together : ((after_all start calls).state 1 ≡ InHand) × ((after_all start calls).state 2 ≡ InHand)

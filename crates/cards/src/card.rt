@@ -13,6 +13,7 @@ mod looks;
 #[derive(Drop)]
 pub struct Card {
     plan: Arrangement,
+    // (a) beside the plan's places in fixed memory: a place's state changes, the plan doesn't
     states: [State; 256],
     ghost sized: { length states ≡ 256 },
     ghost sound: { (u v : ℕ) → (marked plan.before u v ≡ true) × (begun (slice_index_or states v Waiting) ≡ true) → finished (slice_index_or states u Waiting) ≡ true },
@@ -35,6 +36,13 @@ impl Card {
             plan,
             states: [State::Waiting; 256],
         }
+    }
+
+    // The plan whose places are on the card.
+    pub fn plan(&self) -> &Arrangement
+        ensures { result.now ≡ self.now.plan }
+    {
+        &self.plan
     }
 
     // How many places there are.

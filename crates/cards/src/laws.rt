@@ -7,78 +7,56 @@ ghost use Rattle.cards.specs.Runs.{EachRun, RunLaw};
 ghost use Rattle.cards.specs.Tiny.{PremisesMet};
 
 // Every moment and call has an answer and a moment after it.
-pub fn every_call_is_answered() -> u8
+pub fn every_call_is_answered()
     ensures { SomeAnswer }
-{
-    0
-}
+{}
 
 // No moment and call has two answers, or two moments after it.
-pub fn no_call_has_two_answers() -> u8
+pub fn no_call_has_two_answers()
     ensures { OneAnswer }
-{
-    0
-}
+{}
 
 // A call is granted exactly where the rule grants it.
-pub fn calls_are_granted_by_the_rule() -> u8
+pub fn calls_are_granted_by_the_rule()
     ensures { GrantedByRule }
-{
-    0
-}
+{}
 
 // Every moment and request has a reply and a moment after it.
-pub fn every_request_is_replied_to() -> u8
+pub fn every_request_is_replied_to()
     ensures { SomeReply }
-{
-    0
-}
+{}
 
 // No moment and request has two replies, or two moments after it.
-pub fn no_request_has_two_replies() -> u8
+pub fn no_request_has_two_replies()
     ensures { OneReply }
-{
-    0
-}
+{}
 
 // Whatever is asked in whatever order leaves one trail, and no other.
-pub fn every_run_leaves_one_trail() -> u8
+pub fn every_run_leaves_one_trail()
     ensures { EachRun }
-{
-    0
-}
+{}
 
 // No issue has two answers.
-pub fn no_issue_has_two_answers() -> u8
+pub fn no_issue_has_two_answers()
     ensures { OneIssueAnswer }
-{
-    0
-}
+{}
 
 // However the places of an accepted plan are begun, finished and put back after its issue, every moment is kept.
-pub fn runs_keep_their_law() -> u8
+pub fn runs_keep_their_law()
     ensures { RunLaw }
-{
-    0
-}
+{}
 
 // Whatever is called and looked at in whatever order leaves one trail, and no other.
-pub fn every_run_of_requests_leaves_one_trail() -> u8
+pub fn every_run_of_requests_leaves_one_trail()
     ensures { EachRequestRun }
-{
-    0
-}
+{}
 
 // However the places of an accepted plan are begun, finished, put back and looked at after its issue, every moment is kept.
-pub fn runs_of_requests_keep_their_law() -> u8
+pub fn runs_of_requests_keep_their_law()
     ensures { RequestRunLaw }
-{
-    0
-}
+{}
 
 // What the law of runs asks for can be met, with two places in hand together.
-pub fn premises_can_be_met() -> u8
+pub fn premises_can_be_met()
     ensures { PremisesMet }
-{
-    0
-}
+{}

@@ -18,14 +18,13 @@ pub fn reply<B: Book, D: Board>(book: &B, board: &mut D, card: &mut Card, reques
     ensures board { (Works request → ⊥) → board.new ≡ board.old }
     ensures still { UnlessGranted result ((card.new ≡ card.old) × (board.new ≡ board.old)) }
 {
-    match request {
-        Request::Call(call) => match attempt(book, board, card, call.event, call.place) {
-            Ok(()) => Reply::Granted,
-            Err(fault) => Reply::Refused(fault),
-        },
-        Request::Look(place) => match card.look(place) {
-            Ok((step, level, state)) => Reply::Seen { step, level, state },
-            Err(fault) => Reply::Refused(fault),
-        },
-    }
+    let told = match request {
+        Request::Call(call) => {
+            attempt(book, board, card, call.event, call.place).map(|()| Reply::Granted)
+        }
+        Request::Look(place) => card
+            .look(place)
+            .map(|(step, level, state)| Reply::Seen { step, level, state }),
+    };
+    told.unwrap_or_else(Reply::Refused)
 }

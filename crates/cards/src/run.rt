@@ -1,8 +1,7 @@
 // A run: a book, a board and a card that nothing else changes while it lasts.
 ghost use Rattle.std.specs.Prelude.{◌≡◌, ℕ, OnErr};
 ghost use Rattle.task_sheets.specs.Opened.{task_of};
-ghost use Rattle.cards.specs.Answers.{Answered};
-ghost use Rattle.cards.specs.Cards.{setting_of, moment_of, Looked};
+ghost use Rattle.cards.specs.Cards.{Called, Looked};
 ghost use Rattle.cards.specs.Issues.{IssueAnswered};
 ghost use Rattle.cards.specs.declared.state.Event.TheVariants.{Begin, Finish, PutBack};
 
@@ -71,7 +70,7 @@ impl<'a, 'b, 'c, B: Book, D: Board> Run<'a, 'b, 'c, B, D> {
         ensures book { self.new.book.now ≡ self.old.book.now }
         ensures plan { self.new.card.now.plan ≡ self.old.card.now.plan }
         ensures span { D.Board.limit self.new.board.now ≡ D.Board.limit self.old.board.now }
-        ensures answered { Answered (setting_of (B.Book.model self.old.book.now) (D.Board.limit self.old.board.now) self.old.card.now) (moment_of self.old.card.now (D.Board.set self.old.board.now)) Begin place result (moment_of self.new.card.now (D.Board.set self.new.board.now)) }
+        ensures answered { Called (B.Book.model self.old.book.now) (D.Board.limit self.old.board.now) self.old.card.now (D.Board.set self.old.board.now) Begin place result self.new.card.now (D.Board.set self.new.board.now) }
         ensures board { self.new.board.now ≡ self.old.board.now }
         ensures refused { OnErr result ((self.new.card.now ≡ self.old.card.now) × (self.new.board.now ≡ self.old.board.now)) }
     {
@@ -84,7 +83,7 @@ impl<'a, 'b, 'c, B: Book, D: Board> Run<'a, 'b, 'c, B, D> {
         ensures book { self.new.book.now ≡ self.old.book.now }
         ensures plan { self.new.card.now.plan ≡ self.old.card.now.plan }
         ensures span { D.Board.limit self.new.board.now ≡ D.Board.limit self.old.board.now }
-        ensures answered { Answered (setting_of (B.Book.model self.old.book.now) (D.Board.limit self.old.board.now) self.old.card.now) (moment_of self.old.card.now (D.Board.set self.old.board.now)) Finish place result (moment_of self.new.card.now (D.Board.set self.new.board.now)) }
+        ensures answered { Called (B.Book.model self.old.book.now) (D.Board.limit self.old.board.now) self.old.card.now (D.Board.set self.old.board.now) Finish place result self.new.card.now (D.Board.set self.new.board.now) }
         ensures refused { OnErr result ((self.new.card.now ≡ self.old.card.now) × (self.new.board.now ≡ self.old.board.now)) }
     {
         calls::finish(self.book, self.board, self.card, place)
@@ -96,7 +95,7 @@ impl<'a, 'b, 'c, B: Book, D: Board> Run<'a, 'b, 'c, B, D> {
         ensures book { self.new.book.now ≡ self.old.book.now }
         ensures plan { self.new.card.now.plan ≡ self.old.card.now.plan }
         ensures span { D.Board.limit self.new.board.now ≡ D.Board.limit self.old.board.now }
-        ensures answered { Answered (setting_of (B.Book.model self.old.book.now) (D.Board.limit self.old.board.now) self.old.card.now) (moment_of self.old.card.now (D.Board.set self.old.board.now)) PutBack place result (moment_of self.new.card.now (D.Board.set self.new.board.now)) }
+        ensures answered { Called (B.Book.model self.old.book.now) (D.Board.limit self.old.board.now) self.old.card.now (D.Board.set self.old.board.now) PutBack place result self.new.card.now (D.Board.set self.new.board.now) }
         ensures board { self.new.board.now ≡ self.old.board.now }
         ensures refused { OnErr result ((self.new.card.now ≡ self.old.card.now) × (self.new.board.now ≡ self.old.board.now)) }
     {

@@ -29,19 +29,13 @@ impl State {
     pub fn is_finished(self) -> bool
         ensures { result ≡ finished self }
     {
-        match self {
-            State::Finished => true,
-            State::Waiting | State::InHand => false,
-        }
+        self == State::Finished
     }
 
     // Whether the place is in hand.
     pub fn is_in_hand(self) -> bool
         ensures { result ≡ held self }
     {
-        match self {
-            State::InHand => true,
-            State::Waiting | State::Finished => false,
-        }
+        self == State::InHand
     }
 }

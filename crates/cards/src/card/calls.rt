@@ -1,7 +1,8 @@
 // How a place is begun, finished and put back, on any book, board and card.
+// (d) the three are lent to each call by themselves: the crew looks at the board between two calls, and no clause says whose buffer
+// is lent, as each of a Run must
 ghost use Rattle.std.specs.Prelude.{◌≡◌, ℕ, not, ◌&&◌, ◌||◌, OnErr, ◌≢◌, nat_lt};
-ghost use Rattle.cards.specs.Answers.{Answered};
-ghost use Rattle.cards.specs.Cards.{setting_of, moment_of};
+ghost use Rattle.cards.specs.Cards.{Called};
 ghost use Rattle.cards.specs.declared.state.Event.TheVariants.{Begin, Finish, PutBack};
 
 use crate::card::Card;
@@ -28,13 +29,11 @@ pub fn attempt<B: Book, D: Board>(
 ) -> Result<(), RunFault>
     ensures plan { card.new.plan ≡ card.old.plan }
     ensures span { D.Board.limit board.new ≡ D.Board.limit board.old }
-    ensures answered { Answered (setting_of (B.Book.model book.now) (D.Board.limit board.old) card.old) (moment_of card.old (D.Board.set board.old)) event place result (moment_of card.new (D.Board.set board.new)) }
+    ensures answered { Called (B.Book.model book.now) (D.Board.limit board.old) card.old (D.Board.set board.old) event place result card.new (D.Board.set board.new) }
     ensures board { (event ≢ Finish) → board.new ≡ board.old }
     ensures refused { OnErr result ((card.new ≡ card.old) × (board.new ≡ board.old)) }
 {
-    let Some(found) = card.plan.place(place) else {
-        return Err(RunFault::NoPlace);
-    };
+    let found = card.plan.place(place).ok_or(RunFault::NoPlace)?;
     match (card.states[place], event) {
         (State::Waiting, Event::Begin) => {
             if let Some(lowest) = card.lowest_unfinished(place) {
@@ -61,7 +60,7 @@ pub fn begin<B: Book, D: Board>(
 ) -> Result<(), RunFault>
     ensures plan { card.new.plan ≡ card.old.plan }
     ensures span { D.Board.limit board.new ≡ D.Board.limit board.old }
-    ensures answered { Answered (setting_of (B.Book.model book.now) (D.Board.limit board.old) card.old) (moment_of card.old (D.Board.set board.old)) Begin place result (moment_of card.new (D.Board.set board.new)) }
+    ensures answered { Called (B.Book.model book.now) (D.Board.limit board.old) card.old (D.Board.set board.old) Begin place result card.new (D.Board.set board.new) }
     ensures board { board.new ≡ board.old }
     ensures refused { OnErr result (card.new ≡ card.old) }
 {
@@ -77,7 +76,7 @@ pub fn finish<B: Book, D: Board>(
 ) -> Result<(), RunFault>
     ensures plan { card.new.plan ≡ card.old.plan }
     ensures span { D.Board.limit board.new ≡ D.Board.limit board.old }
-    ensures answered { Answered (setting_of (B.Book.model book.now) (D.Board.limit board.old) card.old) (moment_of card.old (D.Board.set board.old)) Finish place result (moment_of card.new (D.Board.set board.new)) }
+    ensures answered { Called (B.Book.model book.now) (D.Board.limit board.old) card.old (D.Board.set board.old) Finish place result card.new (D.Board.set board.new) }
     ensures refused { OnErr result ((card.new ≡ card.old) × (board.new ≡ board.old)) }
 {
     attempt(book, board, card, Event::Finish, place)
@@ -92,7 +91,7 @@ pub fn put_back<B: Book, D: Board>(
 ) -> Result<(), RunFault>
     ensures plan { card.new.plan ≡ card.old.plan }
     ensures span { D.Board.limit board.new ≡ D.Board.limit board.old }
-    ensures answered { Answered (setting_of (B.Book.model book.now) (D.Board.limit board.old) card.old) (moment_of card.old (D.Board.set board.old)) PutBack place result (moment_of card.new (D.Board.set board.new)) }
+    ensures answered { Called (B.Book.model book.now) (D.Board.limit board.old) card.old (D.Board.set board.old) PutBack place result card.new (D.Board.set board.new) }
     ensures board { board.new ≡ board.old }
     ensures refused { OnErr result (card.new ≡ card.old) }
 {

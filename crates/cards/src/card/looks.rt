@@ -12,32 +12,24 @@ impl Card {
     pub fn look(&self, place: usize) -> Result<(usize, usize, State), RunFault>
         ensures { Looked self.now place result }
     {
-        match self.plan.place(place) {
-            Some(found) => Ok((found.step, found.level, self.states[place])),
-            None => Err(RunFault::NoPlace),
-        }
+        let found = self.plan.place(place).ok_or(RunFault::NoPlace)?;
+        Ok((found.step, found.level, self.states[place]))
     }
+
     // The lowest unfinished place that precedes this one.
     pub(crate) fn lowest_unfinished(&self, place: usize) -> Option<usize>
         requires { place < size_of self.now }
         ensures { MatchOption result (Cleared (size_of self.now) (precedes_of self.now) (done_of self.now) place) (λ u. Lowest (size_of self.now) (precedes_of self.now) (done_of self.now) place u) }
     {
-        for u in 0..place {
-            if self.plan.precedes(u, place) && !self.states[u].is_finished() {
-                return Some(u);
-            }
-        }
-        None
+        (0..place).find(|&u| self.plan.precedes(u, place) && !self.states[u].is_finished())
     }
+
     // Whether a place is in hand.
     pub(crate) fn some_in_hand(&self) -> bool
         ensures { MatchBool result (SomeInHand self.now) (NoneInHand self.now) }
     {
-        for u in 0..self.count() {
-            if self.states[u].is_in_hand() {
-                return true;
-            }
-        }
-        false
+        self.states[..self.count()]
+            .iter()
+            .any(|state| state.is_in_hand())
     }
 }

@@ -7,5 +7,5 @@ use Rattle.cards.proofs.card.Card.waiting.Goals as goal
 pub invariant_of-result : goal.invariant_of-result
 invariant_of-result c = record { sized = refl; sound = λ u v h. absurd (both_ways _ (ap begun (every_place_waits 256 v)) h.1) }
 
-pub returns : goal.returns
-returns c = record { plan = refl; states = λ u. every_place_waits 256 u }
+pub returns-clause-states : goal.returns-clause-states
+returns-clause-states c u = every_place_waits 256 u
