@@ -11,10 +11,9 @@ use Rattle.cards.specs.Runs.{Issued}
 use Rattle.cards.specs.declared.card.Card.{Card}
 use Rattle.cards.specs.declared.request.Request.{Request}
 use Rattle.cards.specs.declared.request.Reply.{Reply}
-use Rattle.cards.proofs.Requesting.{run_law}
+use Rattle.cards.proofs.Requesting.{run_law, each_run}
 use Rattle.cards.proofs.Drawing.{drawn_issued}
 use Rattle.cards.proofs.Trails.{setting_stays}
-use Rattle.cards.proofs.RequestTrails.{each_run}
 use Rattle.recasts.specs.Recasts.{RecastWritten}
 use Rattle.timetables.specs.Scale.{Scale, Laws}
 use Rattle.timetables.specs.Timetable.{Timetabled}

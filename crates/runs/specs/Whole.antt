@@ -23,8 +23,8 @@ use Rattle.runs.specs.declared.lengths.Lengths.{Lengths}
 -- the requests are carried out in turn from the moment b on: one reply for each, and the last leaves the moment e
 pub record Carried (s : Setting) (b : Moment) (requests : List Request) (replies : List Reply) (e : Moment) : Type 0 where
   pub calls : List Made
-  pub asked : map (λ c. c.request) calls ≡ requests
-  pub told : map (λ c. c.reply) calls ≡ replies
+  pub asked : map (λ c. c.asked) calls ≡ requests
+  pub told : map (λ c. c.told) calls ≡ replies
   pub trail : Trail s b calls
   pub ends : after_all b calls ≡ e
 

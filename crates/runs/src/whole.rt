@@ -1,9 +1,7 @@
 // A whole run in one call.
-ghost use Rattle.std.specs.Prelude.{◌≡◌, ℕ, ◌<◌, ◌&&◌, ◌⊎◌, length, Ok, MatchResult, OnErr, nat_lt};
+ghost use Rattle.std.specs.Prelude.{◌≡◌, ℕ, ◌&&◌, length, MatchResult, OnErr, nat_lt};
 ghost use Rattle.books.specs.Listed.{listed};
-ghost use Rattle.cards.specs.Cards.{size_of, precedes_of};
 ghost use Rattle.task_sheets.specs.Opened.{task_of};
-ghost use Rattle.timetables.specs.Timetable.{Timetabled};
 ghost use Rattle.runs.specs.Whole.{WholeRun, RunRefused};
 
 use crate::carrying::carry_requests;
@@ -33,22 +31,9 @@ fn start<D: Board>(board: &mut D, card: &mut Card, fresh: Card, task: &TaskSheet
     set_start(board, task);
 }
 
-// Times the places of the card where the buffers are long enough.
-fn time_places<M: Measure + Copy>(
-    card: &Card,
-    weights: &[M],
-    begins: &mut [M],
-) -> Result<M, RunFault>
-    ensures { MatchResult result (λ end. Timetabled M.scale (size_of card.now) (precedes_of card.now) weights.now begins.old begins.new (Ok end)) (λ _. (length weights.now < size_of card.now) ⊎ (length begins.old < size_of card.now)) }
-{
-    match timetable(card, weights, begins) {
-        Ok(end) => Ok(end),
-        Err(short) => Err(RunFault::TooShort(short)),
-    }
-}
-
 // Issues the task, carries the requests out in turn and records each reply, writes the timetable of the places by their
 // weights, and writes the sheet of the recast task. Everything is tested first: refused, nothing changes.
+// (d) the buffers are lent one by one: a struct of them would be filled by each caller for this one call
 pub fn carry_out<B: Book, D: Board, M: Measure + Copy>(
     book: &B,
     task: &TaskSheet,
@@ -75,6 +60,6 @@ pub fn carry_out<B: Book, D: Board, M: Measure + Copy>(
     let written = write_strata(&fresh, task, sheet)?;
     start(board, card, fresh, task);
     carry_requests(book, board, card, requests, replies);
-    let end = time_places(card, weights, begins)?;
+    let end = timetable(card, weights, begins)?;
     Ok(Outcome { end, written })
 }

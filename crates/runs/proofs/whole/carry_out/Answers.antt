@@ -1,4 +1,4 @@
-use Rattle.std.proofs.Common.{length, Ok, sym, refl, ◌∙◌, subst}
+use Rattle.std.proofs.Common.{length, Ok, sym, refl, subst}
 use Rattle.std.proofs.lemmas.Result.{err_from_is_err_and}
 use Rattle.task_sheets.specs.Opened.{task_of}
 use Rattle.cards.specs.Drawing.{DrawAnswered}
@@ -31,8 +31,8 @@ returns-in_err-written g c =
       refused = (refl, refl, refl, refl, w.written.2);
     })
 
-pub returns : goal.returns
-returns g c =
+pub returns-clause-answered : goal.returns-clause-answered
+returns-clause-answered g c =
     let m = g.B.Book.model c.args.book.now in
     let lawful = g.B.Book.lawful c.args.book.now in
     let t = task_of c.args.task.now in
@@ -45,13 +45,8 @@ returns g c =
     let card = c.start.new.card in
     let drawn = subst (λ (x : Card). DrawAnswered m span t c.args.card.now (Ok x)) (sym c.start.ensures.card) d in
     let e = c.carry_requests.ensures in
-    record {
-      span = e.span ∙ c.start.ensures.span;
-      answered =
-          whole g.met.M.Measure.laws m lawful span (limit started) t c.args.card.now card c.carry_requests.new.card (set started) (set c.carry_requests.new.board)
-          c.args.requests.now c.args.replies.now c.carry_requests.new.replies c.args.weights.now c.args.begins.now c.time_places.new.begins
-          c.args.sheet.now c.write_strata.new.out c.in_ok-end.end c.in_ok-written.written
-          drawn c.start.ensures.span c.start.ensures.holds e.plan e.carried e.rest c.in_ok-end.ensures
-          (c.in_ok-written.ensures.recast m lawful d.1.accepted (drawn_card m span t c.args.card.now fresh d));
-      refused = tt;
-    }
+    whole g.met.M.Measure.laws m lawful span (limit started) t c.args.card.now card c.carry_requests.new.card (set started) (set c.carry_requests.new.board)
+    c.args.requests.now c.args.replies.now c.carry_requests.new.replies c.args.weights.now c.args.begins.now c.timetable.new.begins
+    c.args.sheet.now c.write_strata.new.out c.in_ok-end.end c.in_ok-written.written
+    drawn c.start.ensures.span c.start.ensures.holds e.plan e.carried e.rest c.in_ok-end.ensures
+    (c.in_ok-written.ensures.recast m lawful d.1.accepted (drawn_card m span t c.args.card.now fresh d))
