@@ -1,4 +1,4 @@
-// The theorems about plans: each function asks for the proof of the theorem that its contract names.
+// The theorems about plans: each function has no result and asks for the proof of the theorem that its contract names.
 #![tactic(auto)]
 
 ghost use Rattle.plans.specs.Laws.{Freedom, Reaching, Uniqueness, Turning, Picking, Refusing, Recognition, Singling, Acyclicity, Ascent, Laying, Arranging, Arrangeable, Likeness, Independence, Commutation, Needs, Apart, Progress, Feeding, Ending, Stillness, Restaging};
@@ -6,197 +6,141 @@ ghost use Rattle.plans.specs.Recasting.{Stratifying, OneRecast, Recasting};
 ghost use Rattle.plans.specs.Tiny.{PremisesMet, FurtherPremisesMet};
 
 // A step authorizes every other step of a level exactly where none of them is before it.
-pub fn free_steps_have_none_before() -> u8
+pub fn free_steps_have_none_before()
     ensures { Freedom }
-{
-    0
-}
+{}
 
 // A level is authorized exactly where it has a picked order.
-pub fn authorized_levels_have_a_picked_order() -> u8
+pub fn authorized_levels_have_a_picked_order()
     ensures { Reaching }
-{
-    0
-}
+{}
 
 // A level has no second picked order.
-pub fn picked_orders_are_unique() -> u8
+pub fn picked_orders_are_unique()
     ensures { Uniqueness }
-{
-    0
-}
+{}
 
 // In the picked order every earlier step authorizes every later one.
-pub fn picked_orders_are_in_turn() -> u8
+pub fn picked_orders_are_in_turn()
     ensures { Turning }
-{
-    0
-}
+{}
 
 // Of the steps of an authorized level that wait, one authorizes every other.
-pub fn some_waiting_step_is_free() -> u8
+pub fn some_waiting_step_is_free()
     ensures { Picking }
-{
-    0
-}
+{}
 
 // Where no step left authorizes every other one left, the level is not authorized.
-pub fn stuck_levels_are_not_authorized() -> u8
+pub fn stuck_levels_are_not_authorized()
     ensures { Refusing }
-{
-    0
-}
+{}
 
 // A plan is recognized exactly where each level passes from the facts that those before it leave.
-pub fn recognition_goes_level_by_level() -> u8
+pub fn recognition_goes_level_by_level()
     ensures { Recognition }
-{
-    0
-}
+{}
 
 // Every authorized order of each level, done singly, leaves the final facts of the plan.
-pub fn authorized_orders_end_alike() -> u8
+pub fn authorized_orders_end_alike()
     ensures { Singling }
-{
-    0
-}
+{}
 
 // A level of distinct steps is authorized exactly where precedence inside it has no cycle.
-pub fn acyclic_levels_are_authorized() -> u8
+pub fn acyclic_levels_are_authorized()
     ensures { Acyclicity }
-{
-    0
-}
+{}
 
 // In an arranged plan the levels rise with the places, and a place precedes only higher places.
-pub fn places_precede_only_higher_ones() -> u8
+pub fn places_precede_only_higher_ones()
     ensures { Ascent }
-{
-    0
-}
+{}
 
 // In an arranged plan the levels are the places by level.
-pub fn levels_are_their_places() -> u8
+pub fn levels_are_their_places()
     ensures { Laying }
-{
-    0
-}
+{}
 
 // A plan of authorized levels can be arranged.
-pub fn authorized_plans_can_be_arranged() -> u8
+pub fn authorized_plans_can_be_arranged()
     ensures { Arranging }
-{
-    0
-}
+{}
 
 // A plan can be arranged exactly where its levels are authorized.
-pub fn only_authorized_plans_can_be_arranged() -> u8
+pub fn only_authorized_plans_can_be_arranged()
     ensures { Arrangeable }
-{
-    0
-}
+{}
 
 // A plan is arranged in one way only.
-pub fn plans_are_arranged_in_one_way() -> u8
+pub fn plans_are_arranged_in_one_way()
     ensures { Likeness }
-{
-    0
-}
+{}
 
 // Two different places of which neither precedes the other do not disturb each other.
-pub fn independent_places_do_not_disturb() -> u8
+pub fn independent_places_do_not_disturb()
     ensures { Independence }
-{
-    0
-}
+{}
 
 // A place that is not done comes last among the places done, whatever its number.
-pub fn an_undone_place_may_come_last() -> u8
+pub fn an_undone_place_may_come_last()
     ensures { Commutation }
-{
-    0
-}
+{}
 
 // A place all of whose predecessors are done finds what its step needs.
-pub fn ready_places_find_their_needs() -> u8
+pub fn ready_places_find_their_needs()
     ensures { Needs }
-{
-    0
-}
+{}
 
 // Two places that are ready at once do not disturb each other.
-pub fn ready_places_do_not_disturb() -> u8
+pub fn ready_places_do_not_disturb()
     ensures { Apart }
-{
-    0
-}
+{}
 
 // While a place is not done, one that is not done is ready.
-pub fn some_undone_place_is_ready() -> u8
+pub fn some_undone_place_is_ready()
     ensures { Progress }
-{
-    0
-}
+{}
 
 // A recognized plan meets each step's needs where its level starts.
-pub fn recognized_levels_are_fed() -> u8
+pub fn recognized_levels_are_fed()
     ensures { Feeding }
-{
-    0
-}
+{}
 
 // All places, done singly in order, leave the final facts of the plan.
-pub fn all_places_end_as_recognized() -> u8
+pub fn all_places_end_as_recognized()
     ensures { Ending }
-{
-    0
-}
+{}
 
 // Two different places of one stratum do not disturb each other.
-pub fn places_of_a_stratum_do_not_disturb() -> u8
+pub fn places_of_a_stratum_do_not_disturb()
     ensures { Stillness }
-{
-    0
-}
+{}
 
 // The strata as levels are a recognized plan with the same final facts.
-pub fn strata_are_recognized() -> u8
+pub fn strata_are_recognized()
     ensures { Restaging }
-{
-    0
-}
+{}
 
 // A plan has strata exactly where its levels are authorized.
-pub fn authorized_plans_have_strata() -> u8
+pub fn authorized_plans_have_strata()
     ensures { Stratifying }
-{
-    0
-}
+{}
 
 // A plan has one list of strata.
-pub fn plans_have_one_list_of_strata() -> u8
+pub fn plans_have_one_list_of_strata()
     ensures { OneRecast }
-{
-    0
-}
+{}
 
 // The strata of an accepted plan are accepted with the same final facts, and they are their own strata.
-pub fn recast_plans_are_accepted_and_at_rest() -> u8
+pub fn recast_plans_are_accepted_and_at_rest()
     ensures { Recasting }
-{
-    0
-}
+{}
 
 // What the theorems ask for can be met.
-pub fn premises_can_be_met() -> u8
+pub fn premises_can_be_met()
     ensures { PremisesMet }
-{
-    0
-}
+{}
 
 // What the theorems ask for of orders, runs and strata can be met, and a level can have a cycle.
-pub fn further_premises_can_be_met() -> u8
+pub fn further_premises_can_be_met()
     ensures { FurtherPremisesMet }
-{
-    0
-}
+{}
