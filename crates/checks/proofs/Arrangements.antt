@@ -5,12 +5,9 @@ use Rattle.books.specs.Book.{Model}
 use Rattle.plans.specs.Laws.{Alike}
 use Rattle.plans.specs.Places.{Places, Precedes}
 use Rattle.plans.proofs.Arranging.{likeness}
-use Rattle.checks.specs.declared.arrangement.Place.{Place}
 use Rattle.checks.specs.Tables.{blank, places_in}
 use Rattle.checks.specs.Arrangements.{OneArrangement}
-
-same_place : (p q : Place) → p.step ≡ q.step → p.level ≡ q.level → p ≡ q
-same_place p q e d = λ i. record { step = e i; level = d i }
+use Rattle.checks.proofs.Levels.{same_place}
 
 same_number : (a b : ℕ) → 0 < a → 0 < b → b - 1 ≡ a - 1 → b ≡ a
 same_number a b l k e = omega arith

@@ -1,8 +1,8 @@
 -- The levels of a plan, passed one after the other.
-use Rattle.std.proofs.Common.{◌≡◌, ℕ, zero, suc, ◌+◌, ◌-◌, ◌<◌, ◌≤◌, true, not, ◌&&◌, List, [], ◌∷◌, ◌++◌, length, get_or, take, drop, Err, sym, ap, ◌∙◌, subst, inl, inr, add-one, arith}
+use Rattle.std.proofs.Common.{◌≡◌, ℕ, zero, suc, ◌+◌, ◌-◌, ◌<◌, ◌≤◌, true, not, ◌&&◌, List, [], ◌∷◌, ◌++◌, length, get_or, map, take, drop, Err, sym, ap, ◌∙◌, subst, inl, inr, add-one, arith, length-append}
 use mathlib.Core.Path.{fun_ext}
-use Rattle.std.specs.List.{HoldsAt, AllByRecursion}
-use Rattle.std.proofs.lemmas.List.{take_more, take_all, drop_more, length-drop, length-take-le}
+use Rattle.std.specs.List.{AllByRecursion}
+use Rattle.std.proofs.lemmas.List.{take_more, take_all, drop_more, length-drop, length-take-le, length-map, map-append, get_or_append_left, get_or-append-add, get_or-map}
 use Rattle.std.proofs.ByRecursion.{All-from_get_or, All-get_or}
 use Rattle.std.proofs.lemmas.List.Sorted.{length_permutation}
 use Rattle.std.proofs.lemmas.Bool.{cases_lt}
@@ -22,10 +22,12 @@ use Rattle.plans.proofs.Recognizing.{finally_push, recognized_push}
 use Rattle.checks.specs.declared.arrangement.Place.{Place}
 use Rattle.checks.specs.declared.fault.PlanFault.{PlanFault}
 use Rattle.checks.specs.declared.fault.PlanFault.TheVariants.{Sheet, Mismatch, NeedMissing, NoOrder, GoalMissing}
-use Rattle.checks.specs.declared.draft.Draft.{Draft}
+use Rattle.checks.specs.declared.draft.PlacedStep.{PlacedStep}
 use Rattle.checks.specs.Tables.{blank}
 use Rattle.checks.specs.Checked.{Matches, facts_after_levels, Checked, EndsIn, Reached}
-use Rattle.checks.specs.Drafts.{places_of, Filled, Drafted, PlanDrafted}
+use Rattle.checks.specs.Drafts.{placed, places_of, Told, Filled, Drafted, PlanDrafted}
+use Rattle.checks.proofs.Turns.{holds_append}
+use Rattle.checks.proofs.Levels.{pairwise_climbs}
 use Rattle.checks.specs.Levels.{Grown, LevelPassed, LacksNeed, LevelRefused}
 
 total_push : (plan : List (List ℕ)) (xs : List ℕ) → total (plan ++ xs ∷ []) ≡ total plan + length xs
@@ -46,73 +48,80 @@ climbs ps w i (suc j) l k =
       | inr h ↦ (let e : i ≡ j = omega arith in rw e (w j k))
     ]
 
-pairwise_climbs : (ps : List ℕ) → ((i j : ℕ) → i < j → j < length ps → get_or ps i 0 < get_or ps j 0) → plans.Ascending ps
-pairwise_climbs [] w = tt
-pairwise_climbs (p ∷ ps) w = (
-  All-from_get_or (λ b. p < b) ps 0 (λ i l. w 0 (suc i) (omega arith) (omega arith)),
-  pairwise_climbs ps (λ i j l k. w (suc i) (suc j) (omega arith) (omega arith)),
-)
-
 pub ascending : (f : ℕ) (ps : List ℕ) → Ascending f ps → plans.Ascending ps
 ascending f ps w = pairwise_climbs ps (climbs ps w.ascends)
 
 -- the draft grows by one level
-module _ (m : Model) (bs : List ℕ) (k : ℕ) (old new : Draft) (g : Grown m bs (k + 1) old new) where
-  grown_agrees : Agree old.count (places_of old) (places_of new)
+module _ (m : Model) (bs : List ℕ) (k : ℕ) (old new : List PlacedStep) (g : Grown m bs (k + 1) old new) where
+  abbrev at_level : ℕ → Place
+  at_level b = record { step = b; level = k + 1 }
+
+  all_placed : placed new ≡ placed old ++ map at_level bs
+  all_placed = ap placed g.after ∙ map-append (λ (s : PlacedStep). s.place) old g.added ∙ ap (λ ps. placed old ++ ps) g.places
+
+  as_many : length (placed old) ≡ length old
+  as_many = length-map old (λ (s : PlacedStep). s.place)
+
+  grown_count : length new ≡ length old + length bs
+  grown_count =
+      omega (arith, ap length g.after, length-append old g.added, ap length g.places, length-map g.added (λ (s : PlacedStep). s.place), length-map bs at_level)
+
+  kept : (u : ℕ) → u < length old → get_or (placed new) u blank ≡ get_or (placed old) u blank
+  kept u l = ap (λ ps. get_or ps u blank) all_placed ∙ get_or_append_left (placed old) (map at_level bs) blank u (omega (arith, as_many))
+
+  new_place : (j : ℕ) → j < length bs → get_or (placed new) (length old + j) blank ≡ at_level (get_or bs j 0)
+  new_place j l =
+      ap (λ ps. get_or ps (length old + j) blank) all_placed ∙ ap (λ n. get_or (placed old ++ map at_level bs) (n + j) blank) (sym as_many)
+      ∙ get_or-append-add (placed old) (map at_level bs) j blank ∙ get_or-map at_level bs j 0 blank l
+
+  grown_agrees : Agree (length old) (places_of old) (places_of new)
   grown_agrees = record {
-    step = λ u l. ap (λ (p : Place). p.step) (g.places_kept u l);
-    level = λ u l. ap (λ (p : Place). p.level - 1) (g.places_kept u l);
+    step = λ u l. ap (λ (p : Place). p.step) (kept u l);
+    level = λ u l. ap (λ (p : Place). p.level - 1) (kept u l);
   }
 
-  grown_stands : Stands (places_of new) old.count k bs
+  grown_stands : Stands (places_of new) (length old) k bs
   grown_stands = record {
-    step = λ j l. ap (λ (p : Place). p.step) (g.places j l);
-    level = λ j l. (let e : (k + 1) - 1 ≡ k = omega arith in ap (λ (p : Place). p.level - 1) (g.places j l) ∙ e);
+    step = λ j l. ap (λ (p : Place). p.step) (new_place j l);
+    level = λ j l. (let e : (k + 1) - 1 ≡ k = omega arith in ap (λ (p : Place). p.level - 1) (new_place j l) ∙ e);
   }
-
-  at_place : (P : ℕ → Type 0) → ((u : ℕ) → u < old.count → P u) → ((j : ℕ) → j < length bs → P (old.count + j)) → (u : ℕ) → u < new.count → P u
-  at_place P low high u l =
-      elim (cases_lt u old.count) [
-        | inl h ↦ low u h
-        | inr h ↦ (let e : old.count + (u - old.count) ≡ u = omega arith in subst P e (high (u - old.count) (omega (arith, g.count))))
-      ]
 
   grown_filled : Filled m old → Filled m new
   grown_filled f = record {
-    facts = at_place (λ u. HoldsAt (Gathers m (get_or new.places u blank).step) new.facts u)
-        (λ u l d. rw (g.places_kept u l, g.facts_kept u l d) (f.facts u l d))
-        (λ j l d. rw (g.places j l) (g.facts j l d));
-    level = at_place (λ u. 0 < (get_or new.places u blank).level)
-        (λ u l. rw (g.places_kept u l) (f.level u l))
-        (λ j l. rw (g.places j l) (omega arith));
+    facts = subst (Told m) (sym g.after) (holds_append (λ (s : PlacedStep). Gathers m s.place.step s.facts) old g.added f.facts g.told);
+    level = λ u l. elim (cases_lt u (length old)) [
+      | inl h ↦ rw (kept u h) (f.level u h)
+      | inr h ↦ (let e : length old + (u - length old) ≡ u = omega arith in
+          subst (λ v. 0 < (get_or (placed new) v blank).level) e (rw (new_place (u - length old) (omega (arith, grown_count))) (omega arith)))
+    ];
   }
 
 -- no level yet
-pub drafted_none : (m : Model) (t : Task) (words : List ℕ) (d : Draft) → d.count ≡ 0 → ((q : ℕ) → holds words q ≡ listed t.start q) → Drafted m t 0 words d
+pub drafted_none : (m : Model) (t : Task) (words : List ℕ) (d : List PlacedStep) → d ≡ [] → ((q : ℕ) → holds words q ≡ listed t.start q) → Drafted m t 0 words d
 drafted_none m t words d e h = record {
   passed = tt;
   facts = h;
-  arranged = arranged_none m (places_of d) e;
-  count = e;
-  filled = record { facts = λ u l. absurd (omega arith); level = λ u l. absurd (omega arith) };
+  arranged = arranged_none m (places_of d) (ap length e);
+  count = ap length e;
+  filled = record { facts = λ u l. absurd (omega (arith, ap length e)); level = λ u l. absurd (omega (arith, ap length e)) };
 }
 
 -- k levels have passed, and xs is the next one
-module _ (m : Model) (t : Task) (k : ℕ) (words : List ℕ) (d : Draft) (h : Drafted m t k words d) (xs : List ℕ) (l : k < length t.levels) (e : get_or t.levels k [] ≡ xs) where
+module _ (m : Model) (t : Task) (k : ℕ) (words : List ℕ) (d : List PlacedStep) (h : Drafted m t k words d) (xs : List ℕ) (l : k < length t.levels) (e : get_or t.levels k [] ≡ xs) where
   same_facts : holds words ≡ facts_after_levels m t k
   same_facts = fun_ext h.facts
 
   one_more : take (k + 1) t.levels ≡ take k t.levels ++ xs ∷ []
   one_more = take_more t.levels k [] l ∙ ap (λ ys. take k t.levels ++ ys ∷ []) e
 
-  pub level_room : LawfulTask t → d.count + length xs ≤ 256
+  pub level_room : LawfulTask t → length d + length xs ≤ 256
   level_room w =
       omega (arith, h.count, total_push (take k t.levels) xs, ap total one_more, total_take (k + 1) t.levels, w.few_in_all)
 
   pub level_lawful : LawfulTask t → LawfulLevel t.steps xs
   level_lawful w = subst (LawfulLevel t.steps) e (All-get_or (LawfulLevel t.steps) t.levels k [] l w.each)
 
-  module _ (words' : List ℕ) (d' : Draft) (pass : LevelPassed m (holds words) xs (k + 1) words' d d') where
+  module _ (words' : List ℕ) (d' : List PlacedStep) (pass : LevelPassed m (holds words) xs (k + 1) words' d d') where
     p : LevelPassed m (facts_after_levels m t k) xs (k + 1) words' d d'
     p = subst (λ E. LevelPassed m E xs (k + 1) words' d d') same_facts pass
 
@@ -126,9 +135,9 @@ module _ (m : Model) (t : Task) (k : ℕ) (words : List ℕ) (d : Draft) (h : Dr
           facts = λ q. p.facts q ∙ ap (λ (E : Facts). E q) (sym (finally_push m (listed t.start) (take k t.levels) xs))
               ∙ ap (λ plan. finally m (listed t.start) plan q) (sym one_more);
           arranged = subst (λ plan. Arranged m plan (places_of d')) (sym one_more)
-              (arranged_more m (places_of d) (places_of d') (grown_agrees m p.order k d d' p.grown) xs p.order p.picked p.grown.count
-              (take k t.levels) h.arranged (subst (λ i. Stands (places_of d') d.count i p.order) (sym long) (grown_stands m p.order k d d' p.grown)));
-          count = p.grown.count ∙ omega (arith, h.count, total_push (take k t.levels) xs, ap total one_more, length_permutation xs p.order p.picked.shuffled);
+              (arranged_more m (places_of d) (places_of d') (grown_agrees m p.order k d d' p.grown) xs p.order p.picked (grown_count m p.order k d d' p.grown)
+              (take k t.levels) h.arranged (subst (λ i. Stands (places_of d') (length d) i p.order) (sym long) (grown_stands m p.order k d d' p.grown)));
+          count = grown_count m p.order k d d' p.grown ∙ omega (arith, h.count, total_push (take k t.levels) xs, ap total one_more, length_permutation xs p.order p.picked.shuffled);
           filled = grown_filled m p.order k d d' p.grown h.filled;
         }
 
@@ -155,7 +164,7 @@ module _ (m : Model) (t : Task) (k : ℕ) (words : List ℕ) (d : Draft) (h : Dr
   level_refused ok (GoalMissing p) r = absurd r
 
 -- all levels have passed
-module _ (m : Model) (t : Task) (k : ℕ) (words : List ℕ) (d : Draft) (h : Drafted m t k words d) (l : length t.levels ≤ k) where
+module _ (m : Model) (t : Task) (k : ℕ) (words : List ℕ) (d : List PlacedStep) (h : Drafted m t k words d) (l : length t.levels ≤ k) where
   pub drafted_all : Drafted m t (length t.levels) words d
   drafted_all =
       let e : take k t.levels ≡ take (length t.levels) t.levels = take_all k t.levels l ∙ sym (take_all (length t.levels) t.levels (omega arith)) in
@@ -179,7 +188,7 @@ next_of xs k y ys r f g =
     heads a b x z q = (cc, cc)
 
 -- the whole plan has passed
-module _ (m : Model) (t : Task) (words : List ℕ) (d : Draft) (h : Drafted m t (length t.levels) words d) where
+module _ (m : Model) (t : Task) (words : List ℕ) (d : List PlacedStep) (h : Drafted m t (length t.levels) words d) where
   whole : take (length t.levels) t.levels ≡ t.levels
   whole = take_all (length t.levels) t.levels (omega arith)
 

@@ -1,23 +1,22 @@
 -- The turns of a level: rows of positions show which step is free, and the draft grows by the steps taken.
-use Rattle.std.proofs.Common.{◌≡◌, ℕ, ◌+◌, ◌<◌, ◌≤◌, Bool, true, not, ◌&&◌, eqb, List, [], ◌∷◌, ◌++◌, length, get_or, set, sym, refl, ap, ◌∙◌, subst, inl, inr, arith, length-append, get_or-set_other, get_or-set_same}
-use Rattle.std.specs.List.{ContainsAt as Has}
+use Rattle.std.proofs.Common.{◌≡◌, ℕ, ◌-◌, ◌<◌, Bool, true, not, ◌&&◌, eqb, List, [], ◌∷◌, ◌++◌, length, get_or, sym, refl, ap, ap₂, ◌∙◌, subst, inl, inr, arith, length-append}
+use Rattle.std.specs.List.{ContainsAt as Has, HoldsAt}
 use Rattle.std.specs.List.Sorted.{IsPermutation}
-use Rattle.std.proofs.lemmas.List.{get_or_push, get_or_append_left, length_push}
+use Rattle.std.proofs.lemmas.List.{get_or_append_left, get_or-append_right, append-nil, append_assoc, map-append}
 use Rattle.std.proofs.lemmas.List.Sorted.{length_permutation}
 use Rattle.std.proofs.lemmas.Bool.{cases_lt, cases_order, cases_Bool, both_ways, and_from, and_parts}
 use Rattle.facts.specs.Sets.{holds}
 use Rattle.facts.specs.declared.NumberSet.{NumberSet}
 use Rattle.books.specs.Book.{Model}
 use Rattle.books.specs.Gathered.{Gathers}
-use Rattle.books.specs.declared.step_facts.StepFacts.{StepFacts}
 use Rattle.plans.specs.Steps.{Authorizes}
 use Rattle.plans.specs.Plans.{Ascending, Authorized}
 use Rattle.plans.specs.Order.{Picked}
 use Rattle.plans.proofs.Members.{has_first, pairwise_get_or}
 use Rattle.plans.proofs.Taking.{FreeAt, Taking, taking_all, taking_stuck, taking_more}
-use Rattle.checks.specs.Tables.{blank}
+use Rattle.checks.specs.Drafts.{Told}
 use Rattle.checks.specs.Levels.{Rowed, ReadyAt, Grown}
-use Rattle.checks.specs.declared.draft.Draft.{Draft}
+use Rattle.checks.specs.declared.draft.PlacedStep.{PlacedStep}
 use Rattle.checks.specs.declared.arrangement.Place.{Place}
 
 authorizes_stable : (m : Model) (u v : ℕ) → ((Authorizes m u v → ⊥) → ⊥) → Authorizes m u v
@@ -78,50 +77,29 @@ turns_all m xs up waits bs t e =
       | inl s ↦ (let h = t.holds i l s in absurd (omega (arith, h.1, length_permutation xs (bs ++ t.rest) t.so_far.whole, length-append bs t.rest)))
     ])
 
-abbrev placed : ℕ → ℕ → Place
-placed number a = record { step = a; level = number }
+-- what holds at each place of two lists holds at each of both together
+pub holds_append : {X : Type 0} (P : X → Type 0) (xs ys : List X) → ((u : ℕ) → u < length xs → HoldsAt P xs u) → ((u : ℕ) → u < length ys → HoldsAt P ys u)
+    → (u : ℕ) → u < length (xs ++ ys) → HoldsAt P (xs ++ ys) u
+holds_append P xs ys f g u l d =
+    elim (cases_lt u (length xs)) [
+      | inl k ↦ subst P (sym (get_or_append_left xs ys d u k)) (f u k d)
+      | inr k ↦ subst P (sym (get_or-append_right xs ys (length xs) u d refl k)) (g (u - length xs) (omega (arith, length-append xs ys)) d)
+    ]
 
-module _ (m : Model) (number : ℕ) where
-  pub grown_none : (d : Draft) → Grown m [] number d d
-  grown_none d = record {
-    count = omega arith;
-    places_kept = λ k l. refl;
-    facts_kept = λ k l s. refl;
-    places = λ k l. absurd (omega arith);
-    facts = λ k l. absurd (omega arith);
-  }
+module _ (m : Model) where
+  pub told_more : (d : List PlacedStep) (s : PlacedStep) → Told m d → Gathers m s.place.step s.facts → Told m (d ++ s ∷ [])
+  told_more d s t h = holds_append (λ s. Gathers m s.place.step s.facts) d (s ∷ []) t (λ u l x. let e : u ≡ 0 = omega arith in rw e h)
 
-  module _ (bs : List ℕ) (a : ℕ) (s : StepFacts) (old mid new : Draft) (g : Grown m bs number old mid) (h : Gathers m a s) (room : mid.count < 256)
-      (count : new.count ≡ mid.count + 1) (places : new.places ≡ set mid.places mid.count (placed number a))
-      (facts : new.facts ≡ set mid.facts mid.count s) where
-    -- below the new place all is as it was
-    places_below : (k : ℕ) → k < mid.count → get_or new.places k blank ≡ get_or mid.places k blank
-    places_below k l = ap (λ ps. get_or ps k blank) places ∙ get_or-set_other mid.places mid.count k _ blank (λ e. omega arith)
+  module _ (number : ℕ) where
+    pub grown_none : (d : List PlacedStep) → Grown m [] number d d
+    grown_none d = record { added = []; after = sym (append-nil d); places = refl; told = λ u l. absurd (omega arith) }
 
-    facts_below : (k : ℕ) → k < mid.count → (d : StepFacts) → get_or new.facts k d ≡ get_or mid.facts k d
-    facts_below k l d = ap (λ fs. get_or fs k d) facts ∙ get_or-set_other mid.facts mid.count k s d (λ e. omega arith)
-
-    -- the last step stands at the new place
-    here : (k : ℕ) → k < length (bs ++ a ∷ []) → length bs ≤ k → old.count + k ≡ mid.count
-    here k l j = omega (arith, g.count, length_push bs a)
-
-    last : (k : ℕ) → k < length (bs ++ a ∷ []) → length bs ≤ k → get_or (bs ++ a ∷ []) k 0 ≡ a
-    last k l j = get_or_push bs a 0 k (omega (arith, length_push bs a))
-
-    pub grown_more : Grown m (bs ++ a ∷ []) number old new
-    grown_more = record {
-      count = omega (arith, g.count, length_push bs a);
-      places_kept = λ k l. places_below k (omega (arith, g.count)) ∙ g.places_kept k l;
-      facts_kept = λ k l d. facts_below k (omega (arith, g.count)) d ∙ g.facts_kept k l d;
-      places = λ k l. elim (cases_lt k (length bs)) [
-        | inl j ↦ places_below (old.count + k) (omega (arith, g.count)) ∙ g.places k j ∙ ap (placed number) (sym (get_or_append_left bs (a ∷ []) 0 k j))
-        | inr j ↦ ap (λ n. get_or new.places n blank) (here k l j) ∙ ap (λ ps. get_or ps mid.count blank) places
-            ∙ get_or-set_same mid.places mid.count (placed number a) blank (omega (arith, mid.sized)) ∙ ap (placed number) (sym (last k l j))
-      ];
-      facts = λ k l d. elim (cases_lt k (length bs)) [
-        | inl j ↦ subst (λ n. Gathers m n (get_or new.facts (old.count + k) d)) (sym (get_or_append_left bs (a ∷ []) 0 k j))
-            (subst (Gathers m (get_or bs k 0)) (sym (facts_below (old.count + k) (omega (arith, g.count)) d)) (g.facts k j d))
-        | inr j ↦ subst (λ n. Gathers m n (get_or new.facts (old.count + k) d)) (sym (last k l j))
-            (subst (Gathers m a) (sym (ap (λ n. get_or new.facts n d) (here k l j) ∙ ap (λ fs. get_or fs mid.count d) facts ∙ get_or-set_same mid.facts mid.count s d (omega (arith, mid.filled)))) h)
-      ];
+    pub grown_more : (bs : List ℕ) (a : ℕ) (s : PlacedStep) (old mid : List PlacedStep) → Grown m bs number old mid → s.place ≡ record { step = a; level = number }
+        → Gathers m s.place.step s.facts → Grown m (bs ++ a ∷ []) number old (mid ++ s ∷ [])
+    grown_more bs a s old mid g e h = record {
+      added = g.added ++ s ∷ [];
+      after = ap (λ d. d ++ s ∷ []) g.after ∙ append_assoc old g.added (s ∷ []);
+      places = map-append (λ (x : PlacedStep). x.place) g.added (s ∷ []) ∙ ap₂ ◌++◌ g.places (ap (λ p. p ∷ []) e)
+          ∙ sym (map-append (λ b. record { step = b; level = number }) bs (a ∷ []));
+      told = told_more g.added s g.told h;
     }

@@ -1,5 +1,5 @@
 // The check of a plan: its levels passed in turn, then its goal looked for.
-ghost use Rattle.std.specs.Prelude.{◌≡◌, ℕ, length, IfOk, Ok, Err, MatchResult, OnOk};
+ghost use Rattle.std.specs.Prelude.{◌≡◌, ℕ, List, [], length, IfOk, Ok, Err, MatchResult, OnOk};
 ghost use Rattle.facts.specs.Sets.{holds};
 ghost use Rattle.task_sheets.specs.Opened.{task_of};
 ghost use Rattle.checks.specs.Arrangements.{Arranges, OneArrangement};
@@ -21,8 +21,8 @@ fn pass_levels<B: Book>(
     task: &TaskSheet,
     draft: &mut Draft,
 ) -> Result<[u64; 16], PlanFault>
-    requires { (Matches (B.Book.model book.now) (task_of task.now)) × (draft.old.count ≡ 0) }
-    ensures { MatchResult result (λ words. Drafted (B.Book.model book.now) (task_of task.now) (length (task_of task.now).levels) words draft.new) (λ f. Checked (B.Book.model book.now) (task_of task.now) (Err f)) }
+    requires { (Matches (B.Book.model book.now) (task_of task.now)) × (draft.old.items ≡ []) }
+    ensures { MatchResult result (λ words. Drafted (B.Book.model book.now) (task_of task.now) (length (task_of task.now).levels) words draft.new.items) (λ f. Checked (B.Book.model book.now) (task_of task.now) (Err f)) }
 {
     let mut facts = part_set(task, Part::Start).words();
     let mut steps = [0; 256];
@@ -46,10 +46,10 @@ fn reach_goal(task: &TaskSheet, end: &FactSet) -> Result<(), PlanFault>
 // Judges the plan, level by level and then by its goal; on acceptance the draft holds its places, and the facts that it
 // ends in are answered.
 fn judge<B: Book>(book: &B, task: &TaskSheet, draft: &mut Draft) -> Result<[u64; 16], PlanFault>
-    requires { draft.old.count ≡ 0 }
+    requires { draft.old.items ≡ [] }
     ensures answer { Checked (B.Book.model book.now) (task_of task.now) (bare result) }
     ensures facts { IfOk result (EndsIn (B.Book.model book.now) (task_of task.now)) }
-    ensures drafted { OnOk result (PlanDrafted (B.Book.model book.now) (task_of task.now) draft.new) }
+    ensures drafted { OnOk result (PlanDrafted (B.Book.model book.now) (task_of task.now) draft.new.items) }
 {
     if task.facts() != book.facts() || task.steps() != book.steps() {
         return Err(PlanFault::Mismatch);
@@ -83,7 +83,7 @@ pub fn arrange<B: Book>(
 {
     let mut draft = Draft::new();
     let words = judge(book, task, &mut draft)?;
-    *into = Arrangement::of(&draft);
+    *into = Arrangement::of(draft.as_slice());
     Ok(words)
 }
 

@@ -1,45 +1,29 @@
-ghost use Rattle.std.specs.Prelude.{◌≡◌, ℕ, ◌+◌, ◌<◌, ◌≤◌, false, length, slice_set};
+ghost use Rattle.std.specs.Prelude.{◌≡◌, ℕ, false};
 ghost use Rattle.facts.specs.Sets.{holds};
 
 use crate::arrangement::Place;
+use arrayvec::ArrayVec;
 use books::StepFacts;
 use facts::FactSet;
 
-// The places of the levels that have passed, in order, with the facts of their steps.
-#[derive(Drop)]
-pub(crate) struct Draft {
-    pub(crate) count: usize,
-    pub(crate) places: [Place; 256],
-    pub(crate) facts: [StepFacts; 256],
-    ghost few: { count ≤ 256 },
-    ghost sized: { length places ≡ 256 },
-    ghost filled: { length facts ≡ 256 },
+// A place of a level that has passed, with the facts of its step.
+#[derive(Clone, Copy)]
+pub(crate) struct PlacedStep {
+    pub(crate) place: Place,
+    pub(crate) facts: StepFacts,
 }
 
-impl Draft {
-    // The draft without places.
-    pub(crate) fn new() -> Draft
-        ensures { result.count ≡ 0 }
-    {
-        Draft {
-            count: 0,
-            places: [Place { step: 0, level: 0 }; 256],
-            facts: [no_facts(); 256],
+impl Default for PlacedStep {
+    fn default() -> PlacedStep {
+        PlacedStep {
+            place: Place { step: 0, level: 0 },
+            facts: no_facts(),
         }
     }
-
-    // Puts a place after the others, with the facts of its step.
-    pub(crate) fn push(&mut self, place: Place, facts: StepFacts)
-        requires { self.old.count < 256 }
-        ensures count { self.new.count ≡ self.old.count + 1 }
-        ensures places { self.new.places ≡ slice_set self.old.places self.old.count place }
-        ensures facts { self.new.facts ≡ slice_set self.old.facts self.old.count facts }
-    {
-        self.places[self.count] = place;
-        self.facts[self.count] = facts;
-        self.count += 1;
-    }
 }
+
+// The places of the levels that have passed, in order.
+pub(crate) type Draft = ArrayVec<PlacedStep, 256>;
 
 // A step without facts.
 pub(crate) fn no_facts() -> StepFacts

@@ -1,107 +1,45 @@
-ghost use Rattle.std.specs.Prelude.{◌≡◌, ℕ, ◌+◌, ◌<◌, ◌≤◌, false, not, ◌&&◌, ◌||◌, List, length, Decides, MatchBool, MatchOption, MatchResult, nat_lt, slice_index};
+// One level of a plan, passed from the facts before it.
+ghost use Rattle.std.specs.Prelude.{◌≡◌, ℕ, ◌+◌, ◌<◌, ◌≤◌, not, ◌&&◌, ◌||◌, List, length, Decides, MatchOption, MatchResult, slice_index};
 ghost use Rattle.std.specs.List.{AllByRecursion};
-ghost use Rattle.facts.specs.Sets.{holds, First};
+ghost use Rattle.facts.specs.Sets.{holds};
 ghost use Rattle.books.specs.Book.{Model};
 ghost use Rattle.plans.specs.Steps.{Met, passed};
 ghost use Rattle.plans.specs.Plans.{Ascending, Authorized};
 ghost use Rattle.plans.specs.Order.{Before, Picked};
-ghost use Rattle.checks.specs.Levels.{Tabled, RowAt, Rowed, ReadyAt, Grown, LevelRefused, LevelPassed};
+ghost use Rattle.checks.specs.Drafts.{steps_of, levels_of, Told};
+ghost use Rattle.checks.specs.Levels.{RowAt, Rowed, ReadyAt, Grown, LevelRefused, LevelPassed};
 
 use crate::arrangement::Place;
 use crate::authorize::authorizes;
-use crate::draft::{Draft, no_facts};
+use crate::draft::{Draft, PlacedStep};
 use crate::fault::PlanFault;
-use books::{Book, StepFacts, gather};
+use arrayvec::ArrayVec;
+use books::{Book, gather};
 use facts::{FactSet, PlaceSet};
 
-// The first fact that a step needs and that is missing in `facts`.
-fn first_missing(step: &StepFacts, facts: &FactSet) -> Option<usize>
-    ensures { MatchOption result ((q : ℕ) → (holds step.now.needs.words q && not (holds facts.now.words q)) ≡ false) (First (λ q. holds step.now.needs.words q && not (holds facts.now.words q))) }
-{
-    step.needs.first_outside(facts)
-}
-
-// Gathers the facts of a level's steps; refused at the first step that has a need missing in `facts`.
-fn check_needs<B: Book>(
-    book: &B,
-    facts: &FactSet,
-    steps: &[u16],
+// A level with its needs met: its steps as they stand in the task, each with its facts.
+#[derive(Drop)]
+struct Level {
     number: usize,
-    table: &mut [StepFacts; 256],
-) -> Result<(), PlanFault>
-    requires { (Ascending steps.now) × (length steps.now ≤ 256) }
-    ensures { MatchResult result (λ _. AllByRecursion (Met (B.Book.model book.now) (holds facts.now.words)) steps.now × Tabled (B.Book.model book.now) steps.now table.new) (LevelRefused (B.Book.model book.now) (holds facts.now.words) steps.now number) }
-{
-    for i in 0..steps.len() {
-        let step = steps[i] as usize;
-        let gathered = gather(book, step);
-        if let Some(fact) = first_missing(&gathered, facts) {
-            return Err(PlanFault::NeedMissing {
-                level: number,
-                step,
-                fact,
-            });
-        }
-        table[i] = gathered;
-    }
-    Ok(())
+    steps: ArrayVec<PlacedStep, 256>,
+    ghost rising: { (i j : ℕ) → i < j → j < length steps.items → slice_index (steps_of steps.items) i < slice_index (steps_of steps.items) j },
+    ghost numbered: { (i : ℕ) → i < length steps.items → slice_index (levels_of steps.items) i ≡ number },
 }
 
-// Whether the step at `j` comes before the step at `i`: it is another one, which the step at `i` does not authorize.
-fn comes_before(steps: &[u16], table: &[StepFacts; 256], j: usize, i: usize) -> bool
-    requires { (length steps.now ≤ 256) × ((j < length steps.now) × (i < length steps.now)) }
-    ensures { (m : Model) → Tabled m steps.now table.now → Decides result (Before m (slice_index steps.now j) (slice_index steps.now i)) }
+// Whether position `i` is left and none that is left stands in its row.
+fn is_ready(left: &PlaceSet, rows: &[PlaceSet; 256], i: usize) -> bool
+    requires { i < 256 }
+    ensures { Decides result (ReadyAt left.now rows.now i) }
 {
-    steps[j] != steps[i] && !authorizes(&table[i], &table[j])
+    left.contains(i) && !rows[i].intersects(left)
 }
 
-// The positions of the steps that come before the step at `i`.
-fn row_of(steps: &[u16], table: &[StepFacts; 256], i: usize) -> PlaceSet
-    requires { (length steps.now ≤ 256) × (i < length steps.now) }
-    ensures { (m : Model) → Tabled m steps.now table.now → RowAt m steps.now i result }
-{
-    let mut row = PlaceSet::empty();
-    for j in 0..steps.len() {
-        if comes_before(steps, table, j, i) {
-            row.insert(j);
-        }
-    }
-    row
-}
-
-// Fills in the rows of all steps.
-fn fill_rows(steps: &[u16], table: &[StepFacts; 256], rows: &mut [PlaceSet; 256])
-    requires { length steps.now ≤ 256 }
-    ensures { (m : Model) → Tabled m steps.now table.now → Rowed m steps.now rows.new }
-{
-    for i in 0..steps.len() {
-        rows[i] = row_of(steps, table, i);
-    }
-}
-
-// The positions below `count`.
-fn positions(count: usize) -> PlaceSet
-    requires { count ≤ 256 }
-    ensures { (q : ℕ) → holds result.words q ≡ nat_lt q count }
-{
-    let mut all = PlaceSet::empty();
-    for i in 0..count {
-        all.insert(i);
-    }
-    all
-}
-
-// The first position below `count` that is left and has none that is left in its row.
+// The first position below `count` that is ready.
 fn first_ready(left: &PlaceSet, rows: &[PlaceSet; 256], count: usize) -> Option<usize>
     requires { count ≤ 256 }
     ensures { MatchOption result ((i : ℕ) → i < count → ReadyAt left.now rows.now i → ⊥) (λ i. (i < count) × ReadyAt left.now rows.now i × ((j : ℕ) → j < i → ReadyAt left.now rows.now j → ⊥)) }
 {
-    for i in 0..count {
-        if left.contains(i) && !rows[i].intersects(left) {
-            return Some(i);
-        }
-    }
-    None
+    (0..count).find(|i| is_ready(left, rows, *i))
 }
 
 // `facts` without those of `deletes`, then with those of `adds`.
@@ -111,45 +49,101 @@ fn settle(facts: &FactSet, deletes: &FactSet, adds: &FactSet) -> FactSet
     facts.minus(deletes).union(adds)
 }
 
-// The facts after the level: all that its steps delete is removed, then all that they add is put.
-fn facts_after(facts: &FactSet, steps: &[u16], table: &[StepFacts; 256]) -> FactSet
-    requires { length steps.now ≤ 256 }
-    ensures { (m : Model) → Tabled m steps.now table.now → (q : ℕ) → holds result.words q ≡ passed m (holds facts.now.words) steps.now q }
-{
-    let mut deletes = FactSet::empty();
-    let mut adds = FactSet::empty();
-    for i in 0..steps.len() {
-        deletes = deletes.union(&table[i].deletes);
-        adds = adds.union(&table[i].adds);
+impl Level {
+    // The level of these steps; refused at the first one that has a need missing in `facts`.
+    fn gathered<B: Book>(
+        book: &B,
+        facts: &FactSet,
+        steps: &[u16],
+        number: usize,
+    ) -> Result<Level, PlanFault>
+        requires { (Ascending steps.now) × (length steps.now ≤ 256) }
+        ensures { MatchResult result (λ level. (steps_of level.steps.items ≡ steps.now) × (level.number ≡ number) × AllByRecursion (Met (B.Book.model book.now) (holds facts.now.words)) steps.now × Told (B.Book.model book.now) level.steps.items) (LevelRefused (B.Book.model book.now) (holds facts.now.words) steps.now number) }
+    {
+        let mut placed = ArrayVec::new();
+        for step in steps {
+            let step = *step as usize;
+            let gathered = gather(book, step);
+            if let Some(fact) = gathered.needs.first_outside(facts) {
+                return Err(PlanFault::NeedMissing {
+                    level: number,
+                    step,
+                    fact,
+                });
+            }
+            placed.push(PlacedStep {
+                place: Place {
+                    step,
+                    level: number,
+                },
+                facts: gathered,
+            });
+        }
+        Ok(Level {
+            number,
+            steps: placed,
+        })
     }
-    settle(facts, &deletes, &adds)
-}
 
-// Puts the steps into the draft, at each turn the smallest one left that authorizes every other one left; no where a turn
-// has none.
-fn arrange(
-    steps: &[u16],
-    number: usize,
-    table: &[StepFacts; 256],
-    rows: &[PlaceSet; 256],
-    draft: &mut Draft,
-) -> bool
-    requires { (Ascending steps.now) × (draft.old.count + length steps.now ≤ 256) }
-    ensures { (m : Model) → Tabled m steps.now table.now → Rowed m steps.now rows.now → MatchBool result ((bs : List ℕ) × Picked m steps.now bs × Grown m bs number draft.old draft.new) (Authorized m steps.now → ⊥) }
-{
-    let mut left = positions(steps.len());
-    for _turn in 0..steps.len() {
-        let Some(i) = first_ready(&left, rows, steps.len()) else {
-            return false;
-        };
-        left.remove(i);
-        let place = Place {
-            step: steps[i] as usize,
-            level: number,
-        };
-        draft.push(place, table[i]);
+    // Whether the step at `j` comes before the step at `i`: it is another one, which the step at `i` does not authorize.
+    fn comes_before(&self, j: usize, i: usize) -> bool
+        requires { (j < length self.now.steps.items) × (i < length self.now.steps.items) }
+        ensures { (m : Model) → Told m self.now.steps.items → Decides result (Before m (slice_index (steps_of self.now.steps.items) j) (slice_index (steps_of self.now.steps.items) i)) }
+    {
+        let steps = self.steps.as_slice();
+        steps[j].place.step != steps[i].place.step && !authorizes(&steps[i].facts, &steps[j].facts)
     }
-    true
+
+    // The positions of the steps that come before the step at `i`.
+    fn row_of(&self, i: usize) -> PlaceSet
+        requires { i < length self.now.steps.items }
+        ensures { (m : Model) → Told m self.now.steps.items → RowAt m (steps_of self.now.steps.items) i result }
+    {
+        PlaceSet::from_fn(self.steps.len(), |j| self.comes_before(j, i))
+    }
+
+    // The rows of all steps.
+    fn rows(&self) -> [PlaceSet; 256]
+        ensures { (m : Model) → Told m self.now.steps.items → Rowed m (steps_of self.now.steps.items) result }
+    {
+        let mut rows = [PlaceSet::empty(); 256];
+        for i in 0..self.steps.len() {
+            rows[i] = self.row_of(i);
+        }
+        rows
+    }
+
+    // Puts the steps into the draft, at each turn the smallest one left that authorizes every other one left; refused
+    // where a turn has none.
+    fn order(&self, draft: &mut Draft) -> Result<(), PlanFault>
+        requires { length draft.old.items + length self.now.steps.items ≤ 256 }
+        ensures { (m : Model) → Told m self.now.steps.items → MatchResult result (λ _. (bs : List ℕ) × Picked m (steps_of self.now.steps.items) bs × Grown m bs self.now.number draft.old.items draft.new.items) (λ f. (f ≡ PlanFault.NoOrder self.now.number) × (Authorized m (steps_of self.now.steps.items) → ⊥)) }
+    {
+        let rows = self.rows();
+        let steps = self.steps.as_slice();
+        let mut left = PlaceSet::from_fn(steps.len(), |_| true);
+        for _turn in 0..steps.len() {
+            let i = first_ready(&left, &rows, steps.len()).ok_or(PlanFault::NoOrder {
+                level: self.number,
+            })?;
+            left.remove(i);
+            draft.push(steps[i]);
+        }
+        Ok(())
+    }
+
+    // The facts after the level: all that its steps delete is removed, then all that they add is put.
+    fn facts_after(&self, facts: &FactSet) -> FactSet
+        ensures { (m : Model) → Told m self.now.steps.items → (q : ℕ) → holds result.words q ≡ passed m (holds facts.now.words) (steps_of self.now.steps.items) q }
+    {
+        let mut deletes = FactSet::empty();
+        let mut adds = FactSet::empty();
+        for step in self.steps.as_slice() {
+            deletes = deletes.union(&step.facts.deletes);
+            adds = adds.union(&step.facts.adds);
+        }
+        settle(facts, &deletes, &adds)
+    }
 }
 
 // Passes one level: its needs are looked at, its picked order is put into the draft, and the facts after it are answered.
@@ -161,16 +155,11 @@ pub(crate) fn pass_level<B: Book>(
     number: usize,
     draft: &mut Draft,
 ) -> Result<[u64; 16], PlanFault>
-    requires { (Ascending steps.now) × (draft.old.count + length steps.now ≤ 256) }
-    ensures { MatchResult result (λ after. LevelPassed (B.Book.model book.now) (holds facts) steps.now number after draft.old draft.new) (LevelRefused (B.Book.model book.now) (holds facts) steps.now number) }
+    requires { (Ascending steps.now) × (length draft.old.items + length steps.now ≤ 256) }
+    ensures { MatchResult result (λ after. LevelPassed (B.Book.model book.now) (holds facts) steps.now number after draft.old.items draft.new.items) (LevelRefused (B.Book.model book.now) (holds facts) steps.now number) }
 {
     let start = FactSet::of(facts);
-    let mut table = [no_facts(); 256];
-    check_needs(book, &start, steps, number, &mut table)?;
-    let mut rows = [PlaceSet::empty(); 256];
-    fill_rows(steps, &table, &mut rows);
-    if !arrange(steps, number, &table, &rows, draft) {
-        return Err(PlanFault::NoOrder { level: number });
-    }
-    Ok(facts_after(&start, steps, &table).words())
+    let level = Level::gathered(book, &start, steps, number)?;
+    level.order(draft)?;
+    Ok(level.facts_after(&start).words())
 }

@@ -7,5 +7,5 @@ returns g c =
     record {
       answer = h.answer;
       facts = h.facts;
-      arrangement = c.of.ensures (g.B.Book.model c.args.book.now) (task_of c.args.task.now) h.drafted;
+      arrangement = c.of.ensures (g.B.Book.model c.args.book.now) (task_of c.args.task.now) (rw c.as_slice.ensures.value h.drafted);
     }

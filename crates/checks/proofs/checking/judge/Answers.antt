@@ -15,7 +15,7 @@ pub returns-in_err-reach_goal : goal.returns-in_err-reach_goal
 returns-in_err-reach_goal g c =
     let m = g.B.Book.model c.args.book.now in
     let t = task_of c.args.task.now in
-    let d = c.pass_levels.new.draft in
+    let d = c.pass_levels.new.draft.items in
     let h = subst (λ ws. Drafted m t (length t.levels) ws d) (sym c.of.ensures) c.in_ok-end.ensures in
     let ok = matched m t _ _ _ _ c.facts.ensures.says c.facts-2.ensures c.if-facts.false c.steps.ensures.says c.steps-else-facts.ensures c.if-steps.false in
     let p = err_from_is_err_and c.from_residual-in_err-reach_goal.result c.from_residual-in_err-reach_goal.ensures.1 in
@@ -25,7 +25,7 @@ pub returns : goal.returns
 returns g c =
     let m = g.B.Book.model c.args.book.now in
     let t = task_of c.args.task.now in
-    let d = c.pass_levels.new.draft in
+    let d = c.pass_levels.new.draft.items in
     let h = subst (λ ws. Drafted m t (length t.levels) ws d) (sym c.of.ensures) c.in_ok-end.ensures in
     let ok = matched m t _ _ _ _ c.facts.ensures.says c.facts-2.ensures c.if-facts.false c.steps.ensures.says c.steps-else-facts.ensures c.if-steps.false in
     record {

@@ -7,5 +7,5 @@ abbrev pub invariant-loop-i : goal.invariant-loop-i
 invariant-loop-i g l = record {
   to_come : drop l.i-iterator.count (task_of l.task).levels ≡ rest l.i-iterator.iter;
   room : length l.steps ≡ 256;
-  passed : Drafted (g.B.Book.model l.book) (task_of l.task) l.i-iterator.count l.facts l.draft
+  passed : Drafted (g.B.Book.model l.book) (task_of l.task) l.i-iterator.count l.facts l.draft.items
 }

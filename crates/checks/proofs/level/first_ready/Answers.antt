@@ -1,26 +1,17 @@
-use Rattle.std.proofs.Common.{◌≡◌, ℕ, false, ◌&&◌, sym, ◌∙◌, arith, below_more}
-use Rattle.std.proofs.lemmas.Bool.{both_ways}
-use Rattle.facts.specs.Sets.{holds}
-use Rattle.facts.specs.declared.NumberSet.{NumberSet}
-use Rattle.checks.proofs.Levels.{at_any}
+use Rattle.std.proofs.Common.{ℕ, ◌<◌, ◌≤◌, Option, Some, None, MatchOption, rules, tests, arith}
+use Rattle.std.proofs.lemmas.Iterator.{first_from_Range}
+use Rattle.checks.specs.Levels.{ReadyAt}
 use Rattle.checks.proofs.level.first_ready.Goals as goal
-use Rattle.checks.proofs.level.first_ready.Goals.{else-contains-via-then-contains+else-not-intersects, else-contains-via-else-contains}
 
-pub loop-i-preserved : goal.loop-i-preserved
-loop-i-preserved c =
-    below_more _ _ c.loop-i.invariant
-    (λ r. elim c.else-contains.branch [
-      | else-contains-via-then-contains+else-not-intersects w ↦ (let t = w.if-not-intersects.ensures in both_ways _ (r.1 w.index-rows-i.result t.0) t.1)
-      | else-contains-via-else-contains w ↦ both_ways _ (sym c.contains.ensures ∙ w.if-contains.false) r.0
-    ])
+-- from 0 on
+from_start : (n : ℕ) (Yes No : ℕ → Type 0) (o : Option ℕ)
+    → MatchOption o ((k : ℕ) → 0 ≤ k → k < n → No k) (λ i. (0 ≤ i) × (i < n) × Yes i × ((k : ℕ) → 0 ≤ k → k < i → No k))
+    → MatchOption o ((k : ℕ) → k < n → No k) (λ i. (i < n) × Yes i × ((k : ℕ) → k < i → No k))
+from_start n Yes No None d = λ k l. d k (omega arith) l
+from_start n Yes No (Some i) d = (d.1, d.2, λ k l. d.3 k (omega arith) l)
 
 pub returns : goal.returns
-returns c i l = c.loop-i.invariant i (omega arith)
-
-pub returns-then-not-intersects : goal.returns-then-not-intersects
-returns-then-not-intersects c =
-    let free : NumberSet 4 → Type 0 = λ row. (q : ℕ) → (holds row.words q && holds c.args.left.now.words q) ≡ false in (
-      omega arith,
-      (sym c.contains.ensures ∙ c.if-contains.true, at_any free c.args.rows.now c.loop-i.i c.index-rows-i.result (omega arith) c.if-not-intersects.ensures),
-      c.loop-i.invariant,
-    )
+returns c =
+    let ready = ReadyAt c.args.left.now c.args.rows.now in
+    from_start c.args.count ready (λ i. ready i → ⊥) c.find.result
+    (first_from_Range _ _ _ _ ready (λ i. ready i → ⊥) c.find.ensures.ran (λ i q k. search rules) (λ i q k. (search rules, search rules)))
