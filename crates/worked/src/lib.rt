@@ -4,8 +4,6 @@
 ghost use Rattle.worked.specs.Examples.{WorkedExamples};
 
 // Every worked example holds.
-pub fn worked_examples_hold() -> u8
+pub fn worked_examples_hold()
     ensures { WorkedExamples }
-{
-    0
-}
+{}
