@@ -1,6 +1,7 @@
 -- The text that lists a book sheet and a task sheet, and what a call for it answers.
 use Rattle.std.specs.Prelude.{◌≡◌, ℕ, ◌<◌, ◌≤◌, ◌⊎◌, List, ◌++◌, length, drop, Ok, Err, Result}
 use Rattle.books.specs.Book.{Model}
+pub use Rattle.sheets.specs.Lengths.{longest}
 use Rattle.sheets.specs.declared.writing.TooShort.{TooShort}
 use Rattle.book_sheets.specs.Content as book
 use Rattle.task_sheets.specs.Content as task
@@ -27,10 +28,6 @@ pub record Opened (bs ts text : List ℕ) : Type 0 where
   pub answer : Result (Unit {0}) PlanFault
   pub checked : BytesChecked bs ts answer
   pub told : Tells (book_in bs) (task_in ts) answer text
-
--- the longest sheet that is opened
-abbrev pub longest : ℕ
-longest = 65536
 
 -- the text lists the two sheets. Both lengths are looked at first: a sheet that is too long is refused with 19
 abbrev pub Lists : List ℕ → List ℕ → List ℕ → Type 0

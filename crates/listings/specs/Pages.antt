@@ -1,13 +1,15 @@
 -- What the program holds of a listing before it writes it.
-use Rattle.std.specs.Prelude.{ℕ, List, slice_index_or}
+use Rattle.std.specs.Prelude.{ℕ, List, Ok, Err, Result, slice_index_or}
+use Rattle.sheets.specs.Faults.{too_long_number}
+use Rattle.checks.specs.Faults.{plan_number}
 use Rattle.checks.specs.Tables.{blank}
 use Rattle.timetables.specs.Measures.{step_scale, second_scale}
 use Rattle.timetables.specs.Timetable.{by_place}
 use Rattle.listings.specs.declared.lines.Head.{Head}
 use Rattle.listings.specs.declared.lines.Row.{Row}
 use Rattle.listings.specs.declared.page.Page.{Page}
-use Rattle.listings.specs.declared.page.Listing.{Listing}
-use Rattle.listings.specs.declared.page.Listing.TheVariants.{Refused, Accepted}
+use Rattle.listings.specs.declared.page.ListFault.{ListFault}
+use Rattle.listings.specs.declared.page.ListFault.TheVariants.{TooLong, Plan}
 use Rattle.listings.specs.Lines.{refused_line}
 use Rattle.listings.specs.Shown.{Shown, shown_text}
 
@@ -31,7 +33,12 @@ head_of s = record { places = s.places; levels = s.levels; strata = s.strata; se
 abbrev pub row_of : Shown → ℕ → Row
 row_of s v = record { place = v; step = s.step v; level = s.level v; stratum = s.stratum v; begin = s.begin v }
 
--- the text of a listing
-abbrev pub text_of : Listing → List ℕ
-text_of (Refused n) = refused_line n
-text_of (Accepted p) = shown_text (shown_on p)
+-- the number of why there is no page
+abbrev pub list_number : ListFault → ℕ
+list_number (TooLong e) = too_long_number
+list_number (Plan f) = plan_number f
+
+-- the text of a page, or of why there is none
+abbrev pub text_of : Result Page ListFault → List ℕ
+text_of (Ok p) = shown_text (shown_on p)
+text_of (Err f) = refused_line (list_number f)

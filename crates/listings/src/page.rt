@@ -1,10 +1,14 @@
+// What is found out of two sheets before it is written.
 ghost use Rattle.std.specs.Prelude.{◌≡◌, length};
+ghost use Rattle.listings.specs.declared.page.ListFault.TheVariants.{TooLong as of_length, Plan as of_plan};
 
-use checks::Arrangement;
+use checks::{Arrangement, PlanFault};
+use sheets::TooLong;
 use timetables::{Seconds, StepCount};
 
 // What is listed of an accepted plan: its places, how many levels and strata it has, when it ends, and by place the
 // strata and the begins.
+// Two arrays side by side: each is the result slice that a timetable is lent (a binding form).
 #[derive(Drop)]
 pub(crate) struct Page {
     pub(crate) plan: Arrangement,
@@ -17,9 +21,25 @@ pub(crate) struct Page {
     ghost timed: { length begins ≡ 256 },
 }
 
-// What is listed of two sheets: the number of their refusal, or their plan.
-#[derive(Drop)]
-pub(crate) enum Listing {
-    Refused { number: u8 },
-    Accepted(Page),
+// Why two sheets have no page: one is too long to be opened, or they are refused.
+#[derive(Clone, Copy)]
+pub(crate) enum ListFault {
+    TooLong(TooLong),
+    Plan(PlanFault),
+}
+
+impl From<TooLong> for ListFault {
+    ghost from_gives = { λ f r. r ≡ of_length f };
+
+    fn from(fault: TooLong) -> ListFault {
+        ListFault::TooLong(fault)
+    }
+}
+
+impl From<PlanFault> for ListFault {
+    ghost from_gives = { λ f r. r ≡ of_plan f };
+
+    fn from(fault: PlanFault) -> ListFault {
+        ListFault::Plan(fault)
+    }
 }

@@ -1,11 +1,13 @@
 // A listing put into a lent buffer.
-ghost use Rattle.std.specs.Prelude.{◌≡◌, ◌<◌, ◌≤◌, MatchOption};
+ghost use Rattle.std.specs.Prelude.{◌≡◌, ◌<◌, ◌≤◌, slice_index_or};
+ghost use Rattle.checks.specs.Tables.{blank};
 ghost use Rattle.decimals.specs.Texts.{Puts, PutsText};
 ghost use Rattle.listings.specs.Shown.{place_lines, shown_text};
-ghost use Rattle.listings.specs.Pages.{shown_on, head_of, row_of, text_of};
+ghost use Rattle.listings.specs.Pages.{shown_on, head_of, row_of, list_number, text_of};
 
 use crate::lines::{Head, Row, put_head, put_refused, put_row};
-use crate::page::{Listing, Page};
+use crate::page::{ListFault, Page};
+use checks::Place;
 use sheets::Writer;
 
 impl Page {
@@ -21,19 +23,30 @@ impl Page {
         }
     }
 
-    // What the line of place `v` shows, if the place is there.
-    fn row(&self, v: usize) -> Option<Row>
-        ensures { MatchOption result (self.now.plan.count ≤ v) (λ row. (v < self.now.plan.count) × (row ≡ row_of (shown_on self.now) v)) }
+    // What the line of the place with number `v` shows.
+    fn row(&self, v: usize, place: Place) -> Row
+        requires inside { v < self.now.plan.count }
+        requires listed { place ≡ slice_index_or self.now.plan.places v blank }
+        ensures { result ≡ row_of (shown_on self.now) v }
     {
-        match self.plan.place(v) {
-            Some(place) => Some(Row {
-                place: v,
-                step: place.step,
-                level: place.level,
-                stratum: self.stratum[v].count as usize,
-                begin: self.begins[v].count as usize,
-            }),
-            None => None,
+        Row {
+            place: v,
+            step: place.step,
+            level: place.level,
+            stratum: self.stratum[v].count as usize,
+            begin: self.begins[v].count as usize,
+        }
+    }
+}
+
+impl ListFault {
+    // The refusal's number on the list of all refusals.
+    fn number(&self) -> u8
+        ensures { result ≡ list_number self.now }
+    {
+        match self {
+            ListFault::TooLong(fault) => fault.number(),
+            ListFault::Plan(fault) => fault.number(),
         }
     }
 }
@@ -43,10 +56,8 @@ fn put_rows(writer: &mut Writer, page: &Page)
     requires { writer.old.at ≤ 113 }
     ensures { PutsText writer.old (place_lines (shown_on page.now) page.now.plan.count) writer.new }
 {
-    let mut v = 0;
-    while let Some(row) = page.row(v) {
-        put_row(writer, row);
-        v += 1;
+    for (v, place) in page.plan.places().iter().enumerate() {
+        put_row(writer, page.row(v, *place));
     }
 }
 
@@ -59,14 +70,15 @@ fn put_page(writer: &mut Writer, page: &Page)
     put_rows(writer, page);
 }
 
-// Puts a listing at the front where the buffer has room for it, and answers its length either way.
-pub(crate) fn put_listing(out: &mut [u8], listing: &Listing) -> usize
+// Puts a listing, a plan's page or why there is none, at the front where the buffer has room for it, and answers its
+// length either way.
+pub(crate) fn put_listing(out: &mut [u8], listing: &Result<Page, ListFault>) -> usize
     ensures { Puts out.old 0 (text_of listing.now) out.new result }
 {
     let mut writer = Writer::new(out);
     match listing {
-        Listing::Refused { number } => put_refused(&mut writer, *number as usize),
-        Listing::Accepted(page) => put_page(&mut writer, page),
+        Ok(page) => put_page(&mut writer, page),
+        Err(fault) => put_refused(&mut writer, usize::from(fault.number())),
     }
     writer.place()
 }

@@ -1,28 +1,24 @@
-use Rattle.std.proofs.Common.{◌≡◌, ℕ, List, Err, sym, ap, ◌∙◌, Bor}
+use Rattle.std.proofs.Common.{Ok, Err, refl, ap, ◌∙◌}
 use Rattle.std.proofs.lemmas.Result.{err_from_is_err_and}
 use Rattle.checks.specs.Checked.{bare}
-use Rattle.listings.proofs.Sheets.{at_fault, both_open}
+use Rattle.listings.proofs.Sheets.{refused, opened}
 use Rattle.listings.proofs.making.read_page.Goals as goal
 
-pub returns-in_err-open : goal.returns-in_err-open
-returns-in_err-open c =
+pub returns-in_err-book_sheet-clause-checked : goal.returns-in_err-book_sheet-clause-checked
+returns-in_err-book_sheet-clause-checked c =
     let p = err_from_is_err_and c.from_residual.result c.from_residual.ensures.1 in
-    record {
-      checked = at_fault _ c.in_err-open.field-0.0 (bare c.from_residual.result) _ (sym c.in_err-open.ensures.verdict) (ap bare p.1 ∙ ap Err p.2);
-      shown = rw p.1 tt;
-    }
+    let f = c.in_err-book_sheet.field-0.0 in
+    refused _ _ (Err f) (bare c.from_residual.result) f _ refl (ap bare p.1 ∙ ap Err p.2) c.in_err-book_sheet.ensures.opens
 
-pub returns-in_err-arrange : goal.returns-in_err-arrange
-returns-in_err-arrange c =
-    let b : c.open.new.self.bytes.now ≡ c.args.book.now = ap (λ (s : Bor (List ℕ)). s.now) c.in_ok-open.ensures.after in
-    let t = c.in_ok-open-2.ensures.after.bytes in
+pub returns-in_err-arrange-clause-checked : goal.returns-in_err-arrange-clause-checked
+returns-in_err-arrange-clause-checked c =
     let p = err_from_is_err_and c.from_residual-in_err-arrange.result c.from_residual-in_err-arrange.ensures.1 in
-    let f = c.in_err-arrange.field-0.0 in
-    let r = bare c.from_residual-in_err-arrange.result in
-    let e : Err f ≡ r = sym (ap bare p.1 ∙ ap Err p.2) in
-    record {
-      checked =
-          both_open c.args.book.now c.args.task.now c.open.new.self.bytes.now c.open-2.new.self.bytes.now r (Err f) _ _
-          (sym c.in_ok-open.ensures.verdict) (sym c.in_ok-open-2.ensures.verdict) b t e c.in_err-arrange.ensures.answer;
-      shown = rw p.1 tt;
-    }
+    let e = ap bare p.1 ∙ ap Err p.2 in
+    let s = c.in_ok-book_sheet.ensures.says in
+    opened _ _ (Ok tt) (bare c.from_residual-in_err-arrange.result) _ refl c.in_ok-book_sheet.ensures.opens
+    (rw (← s.book, ← s.task, e) c.in_err-arrange.ensures.answer)
+
+pub returns-clause-checked : goal.returns-clause-checked
+returns-clause-checked c =
+    let s = c.in_ok-book_sheet.ensures.says in
+    opened _ _ (Ok tt) (Ok tt) _ refl c.in_ok-book_sheet.ensures.opens (rw (← s.book, ← s.task) c.in_ok-arrange.ensures.answer)

@@ -10,15 +10,13 @@ use Rattle.listings.proofs.writing.put_rows.Goals as goal
 lines_more : (s : Shown) (v : ℕ) → place_lines s v ++ place_line v (s.step v) (s.level v) (s.stratum v) (s.begin v) ≡ place_lines s (v + 1)
 lines_more s v = rw add-one refl
 
-pub loop-row-preserved : goal.loop-row-preserved
-loop-row-preserved c =
+pub loop-v-preserved : goal.loop-v-preserved
+loop-v-preserved c =
     let few = c.put_row.ensures.few in
-    let p = c.in-Some.ensures in
     let s = shown_on c.args.page.now in
-    let v = c.loop-row.v in
-    let row = ap (λ (q : Row). place_line q.place q.step q.level q.stratum q.begin) p.1 in
+    let v = c.loop-v.v in
+    let row = ap (λ (q : Row). place_line q.place q.step q.level q.stratum q.begin) c.row.ensures in
     record {
-      counted = omega arith;
       few = omega arith;
-      puts = puts_text_as (lines_more s v) (puts_text_on c.loop-row.invariant.puts (puts_text_as row c.put_row.ensures.puts));
+      puts = puts_text_as (lines_more s v) (puts_text_on c.loop-v.invariant.puts (puts_text_as row c.put_row.ensures.puts));
     }
