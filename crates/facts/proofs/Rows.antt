@@ -1,4 +1,4 @@
--- Loops that work on a row of words, one by one.
+-- Rows of words: two rows word by word, a row told below a number, the first number from a place on.
 use Rattle.std.proofs.Common.{◌≡◌, ℕ, ◌+◌, ◌-◌, ◌*◌, ◌/◌, ◌%◌, ◌^◌, ◌<◌, ◌≤◌, Bool, true, false, ◌&&◌, eqb, leb, List, length, get_or, sym, ap, ◌∙◌, ap₂, ⊎_elim, arith}
 use lib.Count.{count_trailing_zeros}
 use Rattle.std.proofs.lemmas.Bool.Decides.{nat_tests}
