@@ -1,8 +1,8 @@
 // Sets of small numbers, a bit for each number.
 #![tactic(auto)]
 
-ghost use Rattle.std.specs.Prelude.{◌≡◌, ℕ, ◌+◌, ◌-◌, ◌*◌, ◌^◌, ◌<◌, ◌≤◌, Bool, true, false, not, ◌&&◌, ◌||◌, length, if◌then◌else◌, MatchBool, MatchOption, ◌==◌, nat_lt, slice_index};
-ghost use Rattle.std.specs.Iterator.{at_most};
+ghost use Rattle.std.specs.Prelude.{◌≡◌, ℕ, ◌+◌, ◌-◌, ◌*◌, ◌^◌, ◌<◌, ◌≤◌, Bool, true, false, not, List, ◌&&◌, ◌||◌, length, if◌then◌else◌, MatchBool, MatchOption, ◌==◌, nat_lt, slice_index};
+ghost use Rattle.std.specs.Iterator.{Drains, at_most};
 ghost use Rattle.facts.specs.Sets.{holds, count, First, Next, GivesNext, same_below};
 ghost use Rattle.facts.specs.Laws.{same_numbers, same_numbers-partial};
 
@@ -184,6 +184,7 @@ impl<const W: usize> NumberSet<W> {
     pub fn iter(&self) -> Members<'_, W>
         ensures set { result.set.now.words ≡ self.now.words }
         ensures from { result.from ≡ 0 }
+        ensures counted { (xs : List ℕ) → Drains (GivesNext (λ s. s.set.now.words) (λ s. s.from) (64 * W)) result xs → length xs ≡ count (holds self.now.words) (64 * W) }
     {
         Members { set: self, from: 0 }
     }
