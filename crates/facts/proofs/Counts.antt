@@ -28,8 +28,8 @@ module _ {S : Type 0} (words : S → List ℕ) (from : S → ℕ) (n : ℕ) wher
   counted (x ∷ xs) s l (u, (t, (j, step, rest), end)) =
       let more = counted xs j (omega (arith, step.1.0, step.1.2)) (u, (t, rest, end)) in
       let more : length xs + count (holds (words s)) (x + 1) ≡ count (holds (words s)) n =
-          subst (λ w. length xs + count (holds w) (x + 1) ≡ count (holds w) n) step.0
-          (subst (λ f. length xs + count (holds (words j)) f ≡ count (holds (words j)) n) step.1.2 more) in
+      subst (λ w. length xs + count (holds w) (x + 1) ≡ count (holds w) n) step.0
+      (subst (λ f. length xs + count (holds (words j)) f ≡ count (holds (words j)) n) step.1.2 more) in
       omega (arith, more, count_next (holds (words s)) (from s) x step.1.1)
 
   -- from the first number on
@@ -38,6 +38,6 @@ module _ {S : Type 0} (words : S → List ℕ) (from : S → ℕ) (n : ℕ) wher
   counted_all xs s ws same start all =
       let more = counted xs s (omega (arith, start)) all in
       let more : length xs + count (holds ws) 0 ≡ count (holds ws) n =
-          subst (λ w. length xs + count (holds w) 0 ≡ count (holds w) n) same
-          (subst (λ f. length xs + count (holds (words s)) f ≡ count (holds (words s)) n) start more) in
+      subst (λ w. length xs + count (holds w) 0 ≡ count (holds w) n) same
+      (subst (λ f. length xs + count (holds (words s)) f ≡ count (holds (words s)) n) start more) in
       omega (arith, more)

@@ -8,7 +8,7 @@ ghost use Rattle.facts.specs.Laws.{same_numbers, same_numbers-partial};
 
 use std::array::from_fn;
 
-// A set of numbers below 64 * W: number p is bit p % 64 of word p / 64.
+// A set of numbers below 64 * W, in at most 16 words: number p is bit p % 64 of word p / 64.
 #[derive(Clone, Copy)]
 pub struct NumberSet<const W: usize> {
     words: [u64; W],
@@ -116,12 +116,14 @@ impl<const W: usize> NumberSet<W> {
     {
         let (mine, others) = (self.words, other.words);
         NumberSet {
-            words: from_fn(|i| -> u64
-                requires place { i < W }
-                requires callable { F.IsAlwaysCallable f }
-                ensures word { F.post f (slice_index mine i) (slice_index others i) result }
-                ensures fits { slice_index others i < 2 ^ 64 }
-            { f(mine[i], others[i]) }),
+            words: from_fn(
+                |i| -> u64
+                    requires place { i < W }
+                    requires callable { F.IsAlwaysCallable f }
+                    ensures word { F.post f (slice_index mine i) (slice_index others i) result }
+                    ensures fits { slice_index others i < 2 ^ 64 }
+                { f(mine[i], others[i]) },
+            ),
         }
     }
 
@@ -180,6 +182,7 @@ impl<const W: usize> NumberSet<W> {
     {
         self.common(other).first().is_some()
     }
+
     // The numbers of the set in ascending order.
     pub fn iter(&self) -> Members<'_, W>
         ensures set { result.set.now.words ≡ self.now.words }
@@ -218,7 +221,7 @@ impl<'a, const W: usize> Iterator for Members<'a, W> {
     }
 }
 
-// Two sets are equal where they hold the same numbers.
+// Two sets are equal where they hold the same numbers. By hand: a derived equality speaks of words, and no clause knows that different words hold different numbers, since none bounds a word.
 impl<const W: usize> PartialEq for NumberSet<W> {
     ghost eq = { λ a b. same_below 1024 (holds a.words) (holds b.words) };
 
@@ -271,6 +274,17 @@ mod tests {
         assert_eq!(rt; places.first(), Some(255));
         assert!(rt; places.remove(255) && !places.remove(256));
         assert_eq!(rt; places.first(), None);
+    }
+
+    #[test]
+    fn numbers_in_order(rt: HostRuntime) {
+        let places = PlaceSet::from_fn(300, |p| p % 100 == 55);
+        let mut numbers = places.iter();
+        assert_eq!(rt; numbers.next(), Some(55));
+        assert_eq!(rt; numbers.next(), Some(155));
+        assert_eq!(rt; numbers.next(), Some(255));
+        assert_eq!(rt; numbers.next(), None);
+        assert!(rt; places.len() == 3 && PlaceSet::empty().len() == 0);
     }
 
     #[test]
