@@ -1,8 +1,11 @@
-// The worked examples, run: sheets of the rack, plans accepted and refused, cards worked off, timetables.
+// The worked examples, run: sheets of the rack, plans accepted and refused, cards worked off and handed back, timetables.
 #![tactic(auto)]
 
 #[cfg(test)]
 mod checked;
+pub mod given;
+#[cfg(test)]
+mod handed;
 #[cfg(test)]
 mod ran;
 #[cfg(test)]

@@ -1,4 +1,5 @@
 // Cards issued, begun, finished and put back, on the rack of 2 loggers and 1 bath.
+use crate::given::{SIDE_BY_SIDE, TWO_LEVELS};
 use boards::{BitBoard, Board, TallyBoard};
 use book_sheets::BookSheet;
 use cards::{Card, RunFault, begin, finish, issue, put_back};
@@ -7,15 +8,6 @@ use std::process::Abort;
 use std::test::Fail;
 use task_sheets::TaskSheet;
 
-// Start 2, 3; goal 5; levels 0, 6 and 1, 4.
-const TWO_LEVELS: &[u8; 42] = b"\
-    \x00\x07\x00\x07\x00\x02\x00\x04\x00\x00\x00\x14\x00\x00\x00\x1a\x00\x00\x00\x1e\
-    \x00\x02\x00\x02\x00\x03\x00\x01\x00\x05\x00\x02\x00\x00\x00\x06\x00\x02\x00\x01\
-    \x00\x04";
-// Start 2, 3; no goal; levels 0 and 1.
-const SIDE_BY_SIDE: &[u8; 36] = b"\
-    \x00\x07\x00\x07\x00\x02\x00\x02\x00\x00\x00\x14\x00\x00\x00\x1a\x00\x00\x00\x1c\
-    \x00\x02\x00\x02\x00\x03\x00\x00\x00\x01\x00\x00\x00\x01\x00\x01";
 // A book of 513 facts and no steps, and a task for it without levels.
 const WIDE: &[u8; 12] = b"\
     \x02\x01\x00\x00\x00\x00\x00\x0c\x00\x00\x00\x0c";
@@ -25,7 +17,7 @@ const WIDE_TASK: &[u8; 24] = b"\
     \x00\x00\x00\x00";
 
 // Whether the board holds just the facts of these digits, of the facts 0 to 7.
-fn holds<D: Board>(rt: &impl Abort, board: &D, digits: &[u8]) {
+pub(crate) fn holds<D: Board>(rt: &impl Abort, board: &D, digits: &[u8]) {
     for digit in b'0'..=b'7' {
         assert_eq!(rt;
             board.held((digit - b'0') as usize),

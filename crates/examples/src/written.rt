@@ -1,14 +1,11 @@
 // The sheet of the rack of 2 loggers and 1 bath, written and read back.
+use crate::given::RACK;
 use book_sheets::BookSheet;
 use book_writer::write_book;
 use books::Book;
 use racks::Rack;
 use sheets::TooShort;
 use std::test::Fail;
-
-// The sheet of the rack of 2 loggers and 1 bath.
-const RACK: &[u8; 131] =
-    b"\x00\x07\x00\x07\x00\x00\x00\x0c\x00\x00\x00\x59\x00\x00\x00\x59\x00\x00\x00\x3c\x01\x01\x02\x00\x00\x00\x61\x00\x00\x00\x3c\x01\x01\x02\x00\x00\x00\x69\x00\x00\x00\x3c\x01\x01\x01\x00\x00\x00\x6f\x00\x00\x00\x3c\x01\x01\x01\x00\x00\x00\x75\x00\x00\x00\x3c\x02\x01\x00\x00\x00\x00\x7b\x00\x00\x00\x3c\x02\x01\x00\x00\x00\x00\x81\x00\x00\x07\x08\x00\x01\x00\x00\x02\x00\x00\x00\x02\x00\x04\x00\x03\x00\x01\x00\x03\x00\x04\x00\x00\x00\x02\x00\x00\x00\x01\x00\x03\x00\x01\x00\x00\x00\x04\x00\x05\x00\x01\x00\x04\x00\x06\x00\x04";
 
 #[test]
 fn the_rack_has_its_sheet(rt: HostRuntime) -> Result<(), Fail> {
@@ -48,28 +45,24 @@ fn longest_list() -> [u8; 523] {
     let mut sheet = [0; 523];
     let front =
         *b"\x00\xfa\x00\x01\x00\x00\x00\x0c\x00\x00\x00\x17\x00\x00\x00\x17\x00\x00\x00\x01\xfa\x00\x00";
-    for i in 0..23 {
-        sheet[i] = front[i];
-    }
+    sheet[..23].copy_from_slice(&front);
     for p in 0..250 {
         sheet[24 + 2 * p as usize] = p;
     }
     sheet
 }
 
-// The number and the place of the refusal of these bytes, or zeros.
-fn refusal(bytes: &[u8]) -> (u8, usize) {
+// The number and the place of the refusal of these bytes, if they are refused.
+fn refusal(bytes: &[u8]) -> Option<(u8, usize)> {
     let mut sheet = BookSheet::new();
-    match sheet.open(bytes) {
-        Ok(()) => (0, 0),
-        Err(fault) => (fault.refusal.number(), fault.place),
-    }
+    let fault = sheet.open(bytes).err()?;
+    Some((fault.refusal.number(), fault.place))
 }
 
 #[test]
 fn lists_have_at_most_250_facts(rt: HostRuntime) {
     let mut sheet = longest_list();
-    assert_eq!(rt; refusal(&sheet), (0, 0));
+    assert_eq!(rt; refusal(&sheet), None);
     sheet[20] = 251;
-    assert_eq!(rt; refusal(&sheet), (2, 20));
+    assert_eq!(rt; refusal(&sheet), Some((2, 20)));
 }

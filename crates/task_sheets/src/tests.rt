@@ -31,11 +31,7 @@ const REFUSED: [(usize, u16, usize, Refusal, usize); 16] = [
 
 // The first bytes of a sheet.
 fn front(bytes: &[u8], kept: usize) -> &[u8] {
-    if kept < bytes.len() {
-        &bytes[0..kept]
-    } else {
-        bytes
-    }
+    bytes.get(..kept).unwrap_or(bytes)
 }
 
 // The sheet with a number written at a byte.
@@ -99,10 +95,9 @@ fn goes_through_the_levels(rt: HostRuntime) -> Result<(), Fail> {
     let mut sheet = TaskSheet::new();
     sheet.open(front(&LONGER, 42))?;
     let mut levels = sheet.levels_in_turn();
+    assert_eq!(rt; levels.len(), 2);
     for (first, second) in [(0, 6), (1, 4)] {
-        let Some(steps) = levels.next() else {
-            return Err(Fail::new("too few levels"));
-        };
+        let steps = levels.next().ok_or("too few levels")?;
         assert_eq!(rt;
             (steps.len(), steps.get(0), steps.get(1)),
             (2, Some(first), Some(second))

@@ -1,10 +1,6 @@
-// More worked examples, run: cards handed back, recasts, whole runs, listings.
+// More worked examples, run: recasts, whole runs, listings.
 #![tactic(auto)]
 
-#[cfg(test)]
-mod given;
-#[cfg(test)]
-mod handed;
 #[cfg(test)]
 mod listed;
 #[cfg(test)]

@@ -1,5 +1,5 @@
 // Listings of the worked sheets, and of sheets that are refused.
-use crate::given::{
+use examples::given::{
     AT_GOAL, GOAL_MISSED, OTHER_COUNTS, RACK, READ_UNSETTLED, RING, RING_TASK, TWO_LEVELS,
 };
 use listings::list;

@@ -1,7 +1,7 @@
 // Plans of the rack of 2 loggers and 1 bath, recast.
-use crate::given::{AT_GOAL, READ_UNSETTLED, SIDE_BY_SIDE, TWO_LEVELS};
 use cards::RunFault;
 use checks::PlanFault;
+use examples::given::{AT_GOAL, READ_UNSETTLED, SIDE_BY_SIDE, TWO_LEVELS};
 use racks::Rack;
 use recasts::recast;
 use sheets::TooShort;

@@ -1,7 +1,7 @@
 // A whole run in one call: issue, requests, timetable and recast on the rack of 2 loggers and 1 bath.
-use crate::given::{READ_UNSETTLED, TWO_LEVELS};
 use boards::{BitBoard, Board};
 use cards::{Attempt, Card, Event, Reply, Request, RunFault, State};
+use examples::given::{READ_UNSETTLED, TWO_LEVELS};
 use racks::Rack;
 use runs::{Outcome, carry_out};
 use std::process::Abort;
@@ -51,49 +51,41 @@ fn script() -> [Request; 6] {
     ]
 }
 
-// Carries the script out with a part of the buffers, and says which refusal was met, or 0.
+// Carries the script out with the front of each buffer, as long as there is room given.
 fn carried(
     rt: &impl Abort,
     bytes: &[u8],
     board: &mut BitBoard,
     room: (usize, usize, usize),
     lent: &mut Buffers,
-) -> Result<(u8, Outcome<Seconds>), Fail> {
+) -> Result<Result<Outcome<Seconds>, RunFault>, Fail> {
     let rack = Rack::new(2, 1)?;
     let mut task = TaskSheet::new();
     assert!(rt; task.open(bytes).is_ok());
     let mut card = Card::new();
     let (told, begun, long) = room;
-    assert!(rt; told <= 7 && begun <= 5 && long <= 48);
-    let none = Outcome {
-        end: Seconds { count: 0 },
-        written: 0,
-    };
-    if told > 7 || begun > 5 || long > 48 {
-        return Ok((0, none));
-    }
-    match carry_out(
+    Ok(carry_out(
         &rack,
         &task,
         board,
         &mut card,
         &script(),
-        &mut lent.replies[0..told],
+        lent.replies.get_mut(..told).ok_or("too few replies")?,
         &WEIGHTS,
-        &mut lent.begins[0..begun],
-        &mut lent.sheet[0..long],
-    ) {
-        Ok(outcome) => Ok((0, outcome)),
-        Err(fault) => Ok((fault.number(), none)),
-    }
+        lent.begins.get_mut(..begun).ok_or("too few begins")?,
+        lent.sheet.get_mut(..long).ok_or("too few bytes")?,
+    ))
 }
 
 #[test]
 fn a_script_is_carried_out(rt: HostRuntime) -> Result<(), Fail> {
     let mut board = BitBoard::new();
     let mut lent = untouched();
-    let (number, outcome) = carried(&rt, TWO_LEVELS, &mut board, (7, 5, 48), &mut lent)?;
-    assert_eq!(rt; (number, outcome.end.count, outcome.written), (0, 1980, 46));
+    let answer = carried(&rt, TWO_LEVELS, &mut board, (7, 5, 48), &mut lent)?;
+    assert_eq!(rt;
+        answer.map(|outcome| (outcome.end.count, outcome.written)),
+        Ok((1980, 46))
+    );
     let seen = Reply::Seen {
         step: 0,
         level: 1,
@@ -126,7 +118,8 @@ fn refused(
     let mut board = BitBoard::new();
     board.put(6);
     let mut lent = untouched();
-    assert_eq!(rt; carried(rt, bytes, &mut board, room, &mut lent)?.0, number);
+    let answer = carried(rt, bytes, &mut board, room, &mut lent)?;
+    assert_eq!(rt; answer.err().map(|fault| fault.number()), Some(number));
     assert!(rt; board.held(6) && !board.held(2) && !board.held(3));
     assert_eq!(rt; lent.replies[0], Reply::Granted);
     assert!(rt; lent.begins[0].count == 9 && lent.sheet[0] == 9 && lent.sheet[19] == 9);

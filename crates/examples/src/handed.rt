@@ -1,21 +1,11 @@
 // A run that borrows its board and card, and gives them back.
 use crate::given::SIDE_BY_SIDE;
-use boards::{BitBoard, Board};
+use crate::ran::holds;
+use boards::BitBoard;
 use cards::{Attempt, Card, Event, Reply, Request, Run, RunFault, State, reply};
 use racks::Rack;
-use std::process::Abort;
 use std::test::Fail;
 use task_sheets::TaskSheet;
-
-// Whether the board holds just the facts of these digits, of the facts 0 to 7.
-fn holds<D: Board>(rt: &impl Abort, board: &D, digits: &[u8]) {
-    for digit in b'0'..=b'7' {
-        assert_eq!(rt;
-            board.held((digit - b'0') as usize),
-            digits.contains(&digit)
-        );
-    }
-}
 
 #[test]
 fn a_run_hands_board_and_card_back(rt: HostRuntime) -> Result<(), Fail> {
