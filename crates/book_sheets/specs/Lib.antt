@@ -3,3 +3,4 @@ pub mod Content
 pub mod Laws
 pub mod Example
 pub mod Reading
+pub mod Numbers

@@ -1,21 +1,9 @@
 -- The parts of a book's sheet, as they are written one after the other.
 use Rattle.std.specs.Prelude.{◌≡◌, ℕ, ◌+◌, ◌*◌, List, ◌++◌, length}
-use Rattle.books.specs.Book.{Facts, Model}
-use Rattle.books.specs.Listed.{members}
+use Rattle.books.specs.Book.{Model}
 use Rattle.sheets.specs.Fields.{two, four}
-use Rattle.book_writer.specs.declared.writer.Relation.{Relation}
-use Rattle.book_writer.specs.declared.writer.Relation.TheVariants.{Needs, Adds, Deletes}
 use Rattle.book_writer.specs.declared.writer.Sizes.{Sizes}
 use Rattle.book_sheets.specs.Content.{Step, step_rows, all_lists, steps_in}
-
--- the facts that stand in a relation to a step
-abbrev pub related : Model → Relation → ℕ → Facts
-related m Needs = m.needs
-related m Adds = m.adds
-related m Deletes = m.deletes
-
-abbrev pub related_list : Model → Relation → ℕ → List ℕ
-related_list m r a = members (related m r a) m.facts
 
 -- the sizes of the lists of a step
 pub record SizesOf (s : Step) (z : Sizes) : Type 0 where

@@ -1,46 +1,13 @@
 ghost use Rattle.std.specs.Prelude.{◌≡◌, ◌+◌, ◌*◌, ◌≤◌, [], ◌∷◌, ◌++◌, length, drop};
-ghost use Rattle.sheets.specs.Fields.{four, twos};
-ghost use Rattle.sheets.specs.Writing.{Wrote};
+ghost use Rattle.sheets.specs.Fields.{four};
+ghost use Rattle.sheets.specs.Writers.{Room, Writes as WritesBytes};
 ghost use Rattle.book_sheets.specs.Content.{step_in, lists_of};
-ghost use Rattle.book_writer.specs.Parts.{related, related_list, SizesOf, header_of, rows_of, lists_in};
+ghost use Rattle.book_writer.specs.Parts.{SizesOf, header_of, rows_of, lists_in};
 ghost use Rattle.book_writer.specs.Writing.{bytes_of, Writes, Means, Again};
 
-use books::Book;
-use sheets::TooShort;
-use sheets::writing::{put, put_bytes};
-
-// How a fact may stand to a step.
-#[derive(Clone, Copy)]
-enum Relation {
-    Needs,
-    Adds,
-    Deletes,
-}
-
-// Whether fact `p` stands in the relation to step `a`.
-fn is_related<B: Book>(book: &B, relation: Relation, a: usize, p: usize) -> bool
-    ensures { result ≡ related (B.model book.now) relation a p }
-{
-    match relation {
-        Relation::Needs => book.needs(a, p),
-        Relation::Adds => book.adds(a, p),
-        Relation::Deletes => book.deletes(a, p),
-    }
-}
-
-// How many facts stand in the relation to step `a`.
-fn count_related<B: Book>(book: &B, relation: Relation, a: usize) -> u8
-    ensures { result ≡ length (related_list (B.model book.now) relation a) }
-{
-    let facts = book.facts();
-    let mut n = 0;
-    for p in 0..facts {
-        if is_related(book, relation, a, p) {
-            n += 1;
-        }
-    }
-    n
-}
+use book_sheets::put_numbers;
+use books::{Book, gather};
+use sheets::{TooShort, Writer};
 
 // How many facts a step needs, adds and deletes.
 #[derive(Clone, Copy)]
@@ -55,10 +22,11 @@ impl Sizes {
     fn of<B: Book>(book: &B, a: usize) -> Sizes
         ensures { SizesOf (step_in (B.model book.now) a) result }
     {
+        let facts = gather(book, a);
         Sizes {
-            needs: count_related(book, Relation::Needs, a),
-            adds: count_related(book, Relation::Adds, a),
-            deletes: count_related(book, Relation::Deletes, a),
+            needs: facts.needs.len() as u8,
+            adds: facts.adds.len() as u8,
+            deletes: facts.deletes.len() as u8,
         }
     }
 
@@ -85,80 +53,61 @@ fn sheet_length<B: Book>(book: &B) -> usize
     length
 }
 
-// Writes the header at `at`, and answers the place behind it.
-fn put_header<B: Book>(out: &mut [u8], at: usize, book: &B) -> usize
-    requires { at + 12 ≤ length out.old }
-    ensures { Wrote out.old at (header_of (B.model book.now)) out.new result }
+// Writes the header.
+fn put_header<B: Book>(out: &mut Writer<'_>, book: &B)
+    requires { Room out.old 12 }
+    ensures { WritesBytes out.old (header_of (B.model book.now)) out.new }
 {
     let steps = book.steps();
-    let at = put(out, at, book.facts() as u16);
-    let at = put(out, at, steps as u16);
-    let at = put(out, at, 12u32);
-    put(out, at, (12 + 11 * steps) as u32)
+    out.put(book.facts() as u16);
+    out.put(steps as u16);
+    out.put(12u32);
+    out.put((12 + 11 * steps) as u32);
 }
 
-// Writes the row of a step whose lists begin at byte `lists`, and answers the place behind it.
-fn put_row(out: &mut [u8], at: usize, lists: u32, seconds: u32, sizes: Sizes) -> usize
-    requires { at + 11 ≤ length out.old }
-    ensures { Wrote out.old at (four lists ++ (four seconds ++ (sizes.needs ∷ sizes.adds ∷ sizes.deletes ∷ []))) out.new result }
+// Writes the row of a step whose lists begin at byte `lists`.
+fn put_row(out: &mut Writer<'_>, lists: u32, seconds: u32, sizes: Sizes)
+    requires { Room out.old 11 }
+    ensures { WritesBytes out.old (four lists ++ (four seconds ++ (sizes.needs ∷ sizes.adds ∷ sizes.deletes ∷ []))) out.new }
 {
-    let at = put(out, at, lists);
-    let at = put(out, at, seconds);
-    put_bytes(out, at, &[sizes.needs, sizes.adds, sizes.deletes])
+    out.put(lists);
+    out.put(seconds);
+    out.put_bytes(&[sizes.needs, sizes.adds, sizes.deletes]);
 }
 
-// Writes the rows of all steps at `at`, and answers the place behind them.
-fn put_rows<B: Book>(out: &mut [u8], at: usize, book: &B) -> usize
-    requires { at + 11 * (B.model book.now).steps ≤ length out.old }
-    ensures { Wrote out.old at (rows_of (B.model book.now)) out.new result }
+// Writes the rows of all steps.
+fn put_rows<B: Book>(out: &mut Writer<'_>, book: &B)
+    requires { Room out.old (11 * (B.model book.now).steps) }
+    ensures { WritesBytes out.old (rows_of (B.model book.now)) out.new }
 {
     let steps = book.steps();
-    let mut place = at;
     let mut lists = 12 + 11 * steps;
     for a in 0..steps {
         let sizes = Sizes::of(book, a);
-        place = put_row(out, place, lists as u32, book.seconds(a), sizes);
+        put_row(out, lists as u32, book.seconds(a), sizes);
         lists += sizes.bytes();
     }
-    place
 }
 
-// Writes at `at` the facts that stand in the relation to step `a`, and answers the place behind them.
-fn put_related<B: Book>(out: &mut [u8], at: usize, book: &B, relation: Relation, a: usize) -> usize
-    requires { at + 2 * length (related_list (B.model book.now) relation a) ≤ length out.old }
-    ensures { Wrote out.old at (twos (related_list (B.model book.now) relation a)) out.new result }
+// Writes the lists of step `a`.
+fn put_lists<B: Book>(out: &mut Writer<'_>, book: &B, a: usize)
+    requires { Room out.old (length (lists_of (step_in (B.model book.now) a))) }
+    ensures { WritesBytes out.old (lists_of (step_in (B.model book.now) a)) out.new }
 {
-    let facts = book.facts();
-    let mut place = at;
-    for p in 0..facts {
-        if is_related(book, relation, a, p) {
-            place = put(out, place, p as u16);
-        }
+    let facts = gather(book, a);
+    put_numbers(out, &facts.needs);
+    put_numbers(out, &facts.adds);
+    put_numbers(out, &facts.deletes);
+}
+
+// Writes the lists of all steps.
+fn put_all_lists<B: Book>(out: &mut Writer<'_>, book: &B)
+    requires { Room out.old (length (lists_in (B.model book.now))) }
+    ensures { WritesBytes out.old (lists_in (B.model book.now)) out.new }
+{
+    for a in 0..book.steps() {
+        put_lists(out, book, a);
     }
-    place
-}
-
-// Writes the lists of step `a` at `at`, and answers the place behind them.
-fn put_lists<B: Book>(out: &mut [u8], at: usize, book: &B, a: usize) -> usize
-    requires { at + length (lists_of (step_in (B.model book.now) a)) ≤ length out.old }
-    ensures { Wrote out.old at (lists_of (step_in (B.model book.now) a)) out.new result }
-{
-    let at = put_related(out, at, book, Relation::Needs, a);
-    let at = put_related(out, at, book, Relation::Adds, a);
-    put_related(out, at, book, Relation::Deletes, a)
-}
-
-// Writes the lists of all steps at `at`, and answers the place behind them.
-fn put_all_lists<B: Book>(out: &mut [u8], at: usize, book: &B) -> usize
-    requires { at + length (lists_in (B.model book.now)) ≤ length out.old }
-    ensures { Wrote out.old at (lists_in (B.model book.now)) out.new result }
-{
-    let steps = book.steps();
-    let mut place = at;
-    for a in 0..steps {
-        place = put_lists(out, place, book, a);
-    }
-    place
 }
 
 // Writes the whole sheet at the front of the buffer.
@@ -166,9 +115,10 @@ fn put_sheet<B: Book>(out: &mut [u8], book: &B)
     requires { length (bytes_of (B.model book.now)) ≤ length out.old }
     ensures { out.new ≡ bytes_of (B.model book.now) ++ drop (length (bytes_of (B.model book.now))) out.old }
 {
-    let at = put_header(out, 0, book);
-    let at = put_rows(out, at, book);
-    put_all_lists(out, at, book);
+    let mut writer = Writer::new(out);
+    put_header(&mut writer, book);
+    put_rows(&mut writer, book);
+    put_all_lists(&mut writer, book);
 }
 
 // Writes the sheet of the book at the front of the buffer, and answers its length. The sheet opens and means the book.

@@ -1,6 +1,7 @@
 -- Bytes written by a writer, one behind the other.
-use Rattle.std.proofs.Common.{◌≡◌, ℕ, ◌+◌, List, [], ◌++◌, length, refl, ◌∙◌, arith}
+use Rattle.std.proofs.Common.{◌≡◌, ℕ, ◌+◌, List, [], ◌++◌, length, refl, ◌∙◌, arith, drop, zero-add, ap}
 use Rattle.sheets.specs.declared.writer.Writer.{Writer}
+use Rattle.sheets.specs.Writing.{written}
 use Rattle.sheets.specs.Writers.{Room, Writes}
 use Rattle.sheets.proofs.Buffers.{wrote_none, wrote_on, wrote_length, wrote_as}
 
@@ -22,3 +23,8 @@ writes_room {u} {v} {ys} n h p =
     let l = wrote_length {ys = ys} {at = u.at} (omega (arith, h)) p.wrote in
     let k = p.wrote.place in
     omega (arith, h, l, k)
+
+-- what is written from the front on is followed by what stood behind it; zs is the buffer that the writer gives back
+pub writes_front : {u w : Writer} {ys xs zs : List ℕ} → zs ≡ w.out.now → u.at ≡ 0 → u.out.now ≡ xs → Writes u ys w → zs ≡ ys ++ drop (length ys) xs
+writes_front {u} {w} {ys} {xs} back at same p =
+    back ∙ p.wrote.bytes ∙ ap (λ n. written u.out.now n ys) at ∙ ap (λ k. ys ++ drop k u.out.now) (zero-add (length ys)) ∙ ap (λ r. ys ++ drop (length ys) r) same

@@ -1,36 +1,49 @@
-use Rattle.std.proofs.Common.{◌≤◌, length, arith}
+use Rattle.std.proofs.Common.{◌*◌, length, ap, arith, length-append}
 use Rattle.std.proofs.lemmas.List.{append_assoc}
 use Rattle.sheets.specs.Fields.{twos}
-use Rattle.sheets.proofs.Buffers.{wrote_on, wrote_as}
 use Rattle.sheets.proofs.Stands.{length_twos}
+use Rattle.sheets.proofs.Writers.{writes_on, writes_as, writes_room}
 use Rattle.book_sheets.specs.Content.{step_in}
-use Rattle.book_writer.proofs.Lengths.{length_lists}
+use Rattle.book_sheets.specs.Numbers.{numbers_in}
+use Rattle.book_writer.proofs.Lengths.{step_lists, length_lists}
 use Rattle.book_writer.proofs.writer.put_lists.Goals as goal
 
-pub put_related-at-requires : goal.put_related-at-requires
-put_related-at-requires g c =
+pub put_numbers-requires : goal.put_numbers-requires
+put_numbers-requires g c =
     let s = step_in (g.B.Book.model c.args.book.now) c.args.a in
+    let l = step_lists (g.B.Book.model c.args.book.now) (g.B.Book.lawful c.args.book.now) c.args.a c.gather-facts.result c.gather-facts.ensures in
     let e = length_lists s in
-    omega arith
+    let n = ap length l.needs.numbers in
+    (omega arith, omega arith)
 
-pub put_related-at-requires-2 : goal.put_related-at-requires-2
-put_related-at-requires-2 g c =
+pub put_numbers-requires-2 : goal.put_numbers-requires-2
+put_numbers-requires-2 g c =
     let s = step_in (g.B.Book.model c.args.book.now) c.args.a in
+    let l = step_lists (g.B.Book.model c.args.book.now) (g.B.Book.lawful c.args.book.now) c.args.a c.gather-facts.result c.gather-facts.ensures in
     let e = length_lists s in
     let n = length_twos s.needs in
-    omega arith
+    let a = ap length l.adds.numbers in
+    let needs = writes_as (ap twos l.needs.numbers) c.put_numbers.ensures in
+    (omega arith, writes_room (2 * length (numbers_in c.gather-facts.result.adds.words 16)) (omega arith) needs)
 
-pub put_related-requires : goal.put_related-requires
-put_related-requires g c =
+pub put_numbers-requires-3 : goal.put_numbers-requires-3
+put_numbers-requires-3 g c =
     let s = step_in (g.B.Book.model c.args.book.now) c.args.a in
+    let l = step_lists (g.B.Book.model c.args.book.now) (g.B.Book.lawful c.args.book.now) c.args.a c.gather-facts.result c.gather-facts.ensures in
     let e = length_lists s in
     let n = length_twos s.needs in
-    let k = length_twos s.adds in
-    omega arith
+    let a = length_twos s.adds in
+    let d = ap length l.deletes.numbers in
+    let b = length-append (twos s.needs) (twos s.adds) in
+    let needs = writes_as (ap twos l.needs.numbers) c.put_numbers.ensures in
+    let adds = writes_as (ap twos l.adds.numbers) c.put_numbers-2.ensures in
+    (omega arith, writes_room (2 * length (numbers_in c.gather-facts.result.deletes.words 16)) (omega arith) (writes_on (omega arith) needs adds))
 
 pub returns : goal.returns
 returns g c =
     let s = step_in (g.B.Book.model c.args.book.now) c.args.a in
-    let h : c.args.at ≤ length c.args.out.now = omega arith in
-    wrote_as (append_assoc (twos s.needs) (twos s.adds) (twos s.deletes))
-    (wrote_on h (wrote_on h c.put_related-at.ensures c.put_related-at-2.ensures) c.put_related.ensures)
+    let l = step_lists (g.B.Book.model c.args.book.now) (g.B.Book.lawful c.args.book.now) c.args.a c.gather-facts.result c.gather-facts.ensures in
+    let needs = writes_as (ap twos l.needs.numbers) c.put_numbers.ensures in
+    let adds = writes_as (ap twos l.adds.numbers) c.put_numbers-2.ensures in
+    let deletes = writes_as (ap twos l.deletes.numbers) c.put_numbers-3.ensures in
+    writes_as (append_assoc (twos s.needs) (twos s.adds) (twos s.deletes)) (writes_on (omega arith) (writes_on (omega arith) needs adds) deletes)

@@ -1,26 +1,28 @@
-use Rattle.std.proofs.Common.{◌+◌, ◌*◌, ◌≤◌, length, arith}
-use Rattle.sheets.proofs.Buffers.{wrote_on, wrote_as, front_put}
+use Rattle.std.proofs.Common.{◌+◌, ◌*◌, length, ap, rules, arith}
+use Rattle.sheets.specs.Writers.{Room}
+use Rattle.sheets.proofs.Writers.{writes_on, writes_as, writes_room, writes_front}
+use Rattle.book_writer.specs.Parts.{lists_in}
 use Rattle.book_writer.proofs.Lengths.{length_sheet}
 use Rattle.book_writer.proofs.Parts.{row_room, sheet_parts}
 use Rattle.book_writer.proofs.writer.put_sheet.Goals as goal
 
-pub put_rows-at-requires : goal.put_rows-at-requires
-put_rows-at-requires g c =
-    let l = length_sheet (g.B.Book.model c.args.book.now) in
-    let w = c.put_header-at.ensures.place in
-    omega arith
+pub put_rows-requires : goal.put_rows-requires
+put_rows-requires g c =
+    let m = g.B.Book.model c.args.book.now in
+    let l = length_sheet m in
+    let n = ap length c.new-writer.ensures.bytes in
+    writes_room (11 * m.steps) (omega arith) c.put_header.ensures
 
 pub put_all_lists-requires : goal.put_all_lists-requires
 put_all_lists-requires g c =
     let m = g.B.Book.model c.args.book.now in
     let l = length_sheet m in
     let r = row_room m (12 + 11 * m.steps) m.steps in
-    let w = c.put_header-at.ensures.place in
-    let v = c.put_rows-at.ensures.place in
-    omega arith
+    let n = ap length c.new-writer.ensures.bytes in
+    writes_room (length (lists_in m)) (omega arith) (writes_on (omega arith) c.put_header.ensures c.put_rows.ensures)
 
 pub returns : goal.returns
 returns g c =
-    let m = g.B.Book.model c.args.book.now in
-    let h : 0 ≤ length c.args.out.now = omega arith in
-    front_put (wrote_as (sheet_parts m) (wrote_on h (wrote_on h c.put_header-at.ensures c.put_rows-at.ensures) c.put_all_lists.ensures))
+    let room : Room c.new-writer.result 0 = omega (arith, ap length c.new-writer.ensures.bytes) in
+    writes_front (search rules) c.new-writer.ensures.front c.new-writer.ensures.bytes
+    (writes_as (sheet_parts (g.B.Book.model c.args.book.now)) (writes_on room (writes_on room c.put_header.ensures c.put_rows.ensures) c.put_all_lists.ensures))
