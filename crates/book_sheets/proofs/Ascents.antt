@@ -1,8 +1,13 @@
 -- Ascending lists, by what is listed.
-use Rattle.std.proofs.Common.{◌≡◌, ℕ, zero, suc, ◌<◌, ◌≤◌, Bool, true, false, ◌||◌, eqb, List, [], ◌∷◌, length, get_or, sym, refl, ap, ◌∙◌, inl, inr, arith}
+use Rattle.std.proofs.Common.{◌≡◌, ℕ, zero, suc, ◌+◌, ◌*◌, ◌<◌, ◌≤◌, Bool, true, false, not, ◌||◌, eqb, List, [], ◌∷◌, length, get_or, sym, refl, ap, ◌∙◌, inl, inr, arith}
 use Rattle.std.proofs.lemmas.Bool.{both_ways, cases_Bool, cases_eq, eqb-true, eq-eqb, ne_eqb, or_cases, or_left, or_right}
 use Rattle.books.specs.Listed.{listed}
-use Rattle.sheets.specs.Lists.{numbers_at, among, Ascending}
+use Rattle.sheets.specs.declared.fault.Refusal.TheVariants.{AddedToo}
+use Rattle.sheets.specs.Verdicts.{must, ◌then◌, up_to}
+use Rattle.sheets.specs.Fields.{be16}
+use Rattle.sheets.specs.Lists.{entry, numbers_at, among, Ascending}
+use Rattle.sheets.specs.Numbers.{has_number}
+use Rattle.book_sheets.specs.Layout.{deleted, deleted_from}
 use Rattle.sheets.proofs.Stands.{length_numbers_at}
 use Rattle.sheets.proofs.Entries.{among_says, says_among}
 
@@ -30,6 +35,23 @@ among_listed xs at n p =
     same_truth (among xs at n p) (listed (numbers_at xs at n) p)
     (λ h. let r = among_says xs at n p h in says_listed (numbers_at xs at n) p r.0 (omega (arith, r.1.0, length_numbers_at xs at n)) r.1.1)
     (λ h. let r = listed_says (numbers_at xs at n) p h in says_among xs at n p r.0 (omega (arith, r.1.0, length_numbers_at xs at n)) r.1.1)
+
+-- being in a list of numbers is being listed
+pub has_listed : (ps : List ℕ) (p : ℕ) → has_number ps p ≡ listed ps p
+has_listed [] p = refl
+has_listed (q ∷ ps) p = ap (λ b. eqb p q || b) (has_listed ps p)
+
+-- a delete is sought among the adds where they lie, or in the list of them
+deleted_same : (xs : List ℕ) (f adds m at : ℕ) (ps : List ℕ) → ps ≡ numbers_at xs adds m → (j : ℕ) → deleted_from xs f ps at j ≡ deleted xs f adds m at j
+deleted_same xs f adds m at ps e j =
+    let q = be16 xs (at + 2 * j) in
+    ap (λ b. entry xs f at j then must (not b) AddedToo (at + 2 * j)) (has_listed ps q ∙ ap (λ v. listed v q) e ∙ sym (among_listed xs adds m q))
+
+pub deletes_same : (xs : List ℕ) (f adds m at : ℕ) (ps : List ℕ) → ps ≡ numbers_at xs adds m → (n : ℕ) → up_to (deleted_from xs f ps at) n ≡ up_to (deleted xs f adds m at) n
+deletes_same xs f adds m at ps e zero = refl
+deletes_same xs f adds m at ps e (suc n) =
+    ap (λ v. v then deleted_from xs f ps at n) (deletes_same xs f adds m at ps e n)
+    ∙ ap (λ v. up_to (deleted xs f adds m at) n then v) (deleted_same xs f adds m at ps e n)
 
 -- no number at or above the bound is listed
 pub none_above : (f : ℕ) (ps : List ℕ) → Ascending f ps → (p : ℕ) → f ≤ p → listed ps p ≡ false

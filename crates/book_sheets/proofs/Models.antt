@@ -1,15 +1,17 @@
 -- The book that a lawful content means is lawful, and contents that mean the same book are equal.
-use Rattle.std.proofs.Common.{◌≡◌, ℕ, false, ◌&&◌, List, [], length, get_or, sym, refl, ap, ◌∙◌, inl, inr, arith}
-use Rattle.std.proofs.lemmas.Bool.{cases_lt, cases_Bool, and_left, and_right}
+use Rattle.std.proofs.Common.{◌≡◌, ℕ, true, false, is_ok, Ok, Err, MatchResult, OnOk, ◌&&◌, List, [], length, get_or, sym, refl, ap, ◌∙◌, inl, inr, arith}
+use Rattle.std.proofs.lemmas.Bool.{cases_lt, cases_Bool, and_left, and_right, both_ways}
 use Rattle.std.proofs.lemmas.List.{get_or_past, ext_get_or}
 use Rattle.std.proofs.ByRecursion.{All-get_or}
 use Rattle.books.specs.Book.{StepSets, Lawful}
 use Rattle.books.specs.Listed.{listed}
 use Rattle.books.proofs.Counts.{count_listed}
+use Rattle.sheets.specs.declared.fault.Sheet.{Sheet}
+use Rattle.sheets.specs.Verdicts.{Verdict, verdict_on}
 use Rattle.sheets.proofs.Verdicts.{Passes}
 use Rattle.book_sheets.specs.Layout.{book_verdict}
 use Rattle.book_sheets.specs.Content.{Step, Content, empty_step, content, encode, model_of, LawfulList, LawfulStep, LawfulContent, Same}
-use Rattle.book_sheets.specs.Laws.{OneSheet}
+use Rattle.book_sheets.specs.Laws.{Bytes, SheetOf, OneSheet}
 use Rattle.book_sheets.proofs.Lawful.{lawful_content}
 use Rattle.book_sheets.proofs.Codes.{code_of_content}
 use Rattle.book_sheets.proofs.Decodes.{code_passes, content_of_code}
@@ -105,3 +107,13 @@ one_sheet = record {
 -- the book of a sheet that passes is lawful
 pub sheet_lawful : (xs : List ℕ) → Passes (book_verdict xs) → Lawful (model_of (content xs))
 sheet_lawful xs ok = model_lawful (content xs) (lawful_content xs ok)
+
+-- what opens is the sheet of what it says, whose book is lawful; what does not is no sheet
+module _ (xs : List ℕ) (b : Bytes xs) where
+  pub code_by : (s : Sheet) (v : Verdict) → book_verdict xs ≡ v → MatchResult (verdict_on s v) (λ _. SheetOf xs (content xs)) (λ _. (c : Content) → SheetOf xs c → ⊥)
+  code_by s (Ok u) e = one_sheet.sheet xs b (ap is_ok e)
+  code_by s (Err r) e = λ c w. both_ways (is_ok (book_verdict xs)) (ap is_ok e) (ap (λ v. is_ok (book_verdict v)) w.same ∙ one_sheet.opens c w.lawful)
+
+  pub good_by : (s : Sheet) (v : Verdict) → book_verdict xs ≡ v → OnOk (verdict_on s v) ((is_ok (book_verdict xs) ≡ true) × ∥ Lawful (model_of (content xs)) ∥₁)
+  good_by s (Ok u) e = (ap is_ok e, ∣ sheet_lawful xs (ap is_ok e) ∣₁)
+  good_by s (Err r) e = tt

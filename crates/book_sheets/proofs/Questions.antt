@@ -1,18 +1,19 @@
 -- What a book sheet answers is what its content means.
-use Rattle.std.proofs.Common.{◌≡◌, ℕ, zero, suc, ◌+◌, ◌*◌, ◌<◌, ◌≤◌, false, List, length, get_or, sym, refl, ap, ◌∙◌, arith}
+use Rattle.std.proofs.Common.{◌≡◌, ℕ, zero, suc, ◌+◌, ◌*◌, ◌<◌, ◌≤◌, List, length, get_or, sym, refl, ap, ◌∙◌, arith}
 use Rattle.std.proofs.lemmas.List.{get_or_past}
-use Rattle.books.specs.Book.{Facts}
 use Rattle.books.specs.Listed.{listed}
 use Rattle.sheets.specs.Fields.{be16, be32}
-use Rattle.sheets.specs.Lists.{entry, numbers_at}
-use Rattle.sheets.proofs.Verdicts.{Passes, up_to_each}
+use Rattle.sheets.specs.Lists.{numbers_at, Rising}
+use Rattle.sheets.specs.Numbers.{numbers_of}
+use Rattle.sheets.proofs.Verdicts.{Passes}
 use Rattle.sheets.proofs.Entries.{entries_rise}
-use Rattle.book_sheets.specs.Layout.{row_at, lists_at, need_count, add_count, delete_count, book_verdict}
-use Rattle.book_sheets.specs.Content.{empty_step, step_of, steps_from, content, model_of}
-use Rattle.book_sheets.specs.Reading.{Row, NoRow, Holds}
-use Rattle.book_sheets.proofs.Known.{known, deleted_entry}
+use Rattle.book_sheets.specs.declared.step_lists.StepLists.{StepLists}
+use Rattle.book_sheets.specs.Layout.{row_at, lists_at, book_verdict}
+use Rattle.book_sheets.specs.Content.{Step, empty_step, step_of, steps_from, content, model_of}
+use Rattle.book_sheets.specs.Reading.{Row, NoRow, Lists, NoLists}
+use Rattle.book_sheets.proofs.Known.{Passed, known, deleted_entry, rise}
 use Rattle.book_sheets.proofs.Lawful.{length_steps_from}
-use Rattle.book_sheets.proofs.Ascents.{among_listed}
+use Rattle.book_sheets.proofs.Ascents.{has_listed}
 
 step_from : (xs : List ℕ) (b n a : ℕ) → a < n → get_or (steps_from xs b n) a empty_step ≡ step_of xs (b + a)
 step_from xs b zero a l = absurd (omega arith)
@@ -38,64 +39,49 @@ row_found xs ok a l = record {
 pub no_row_found : (xs : List ℕ) (a : ℕ) → be16 xs 2 ≤ a → NoRow xs a
 no_row_found xs a l = record { past = l; seconds = ap (λ s. s.seconds) (sym (step_past xs a l)) }
 
--- a list is found that passes, and whose numbers are those of the step
-list_found : (xs : List ℕ) (f : ℕ) (facts : Facts) (at n : ℕ) → at + 2 * n ≤ length xs → ((j : ℕ) → j < n → Passes (entry xs f at j))
-    → ((p : ℕ) → listed (numbers_at xs at n) p ≡ facts p) → Holds xs facts at n
-list_found xs f facts at n l h e = record {
-  ends = l;
-  rising = entries_rise xs f at n h;
-  told = λ p. among_listed xs at n p ∙ e p;
-}
+-- where there is no step, its lists are empty
+pub no_lists : (xs : List ℕ) (a : ℕ) → be16 xs 2 ≤ a → NoLists xs a
+no_lists xs a l =
+    let e = sym (step_past xs a l) in
+    record { needs = λ p. ap (λ s. listed s.needs p) e; adds = λ p. ap (λ s. listed s.adds p) e; deletes = λ p. ap (λ s. listed s.deletes p) e }
 
-module _ (xs : List ℕ) (ok : Passes (book_verdict xs)) (a : ℕ) (l : a < be16 xs 2) where
-  needs_found : Holds xs ((model_of (content xs)).needs a) (lists_at xs a) (need_count xs a)
-  needs_found =
-      let k = (known xs ok a l).lists in
-      list_found xs (be16 xs 0) ((model_of (content xs)).needs a) (lists_at xs a) (need_count xs a) k.needs_end
-      (λ j g. up_to_each (entry xs (be16 xs 0) (lists_at xs a)) (need_count xs a) j g k.needs_ok)
-      (λ p. ap (λ s. listed s.needs p) (sym (step_is xs a l)))
+-- the lists of a row with n needs, m adds and k deletes, that begin at a byte: they stand in the sheet, and ascend
+pub record Found (xs : List ℕ) (at n m k : ℕ) : Type 0 where
+  pub needs : Rising xs at n
+  pub adds : Rising xs (at + 2 * n) m
+  pub deletes : Rising xs (at + 2 * n + 2 * m) k
+  pub needs_end : at + 2 * n ≤ length xs
+  pub adds_end : at + 2 * n + 2 * m ≤ length xs
+  pub deletes_end : at + 2 * n + 2 * m + 2 * k ≤ length xs
 
-  adds_found : Holds xs ((model_of (content xs)).adds a) (lists_at xs a + 2 * need_count xs a) (add_count xs a)
-  adds_found =
-      let k = (known xs ok a l).lists in
-      let at = lists_at xs a + 2 * need_count xs a in
-      list_found xs (be16 xs 0) ((model_of (content xs)).adds a) at (add_count xs a) k.adds_end
-      (λ j g. up_to_each (entry xs (be16 xs 0) at) (add_count xs a) j g k.adds_ok)
-      (λ p. ap (λ s. listed s.adds p) (sym (step_is xs a l)))
-
-  deletes_found : Holds xs ((model_of (content xs)).deletes a) (lists_at xs a + 2 * need_count xs a + 2 * add_count xs a) (delete_count xs a)
-  deletes_found =
-      let k = (known xs ok a l).lists in
-      let adds = lists_at xs a + 2 * need_count xs a in
-      let at = adds + 2 * add_count xs a in
-      list_found xs (be16 xs 0) ((model_of (content xs)).deletes a) at (delete_count xs a) k.deletes_end
-      (deleted_entry xs (be16 xs 0) adds (add_count xs a) at (delete_count xs a) k.deletes_ok)
-      (λ p. ap (λ s. listed s.deletes p) (sym (step_is xs a l)))
-
--- and so are the lists that are read by a row
-module _ (xs : List ℕ) (ok : Passes (book_verdict xs)) (a row at : ℕ) (h : Row xs a row) (e : at ≡ be32 xs row) where
+module _ (xs : List ℕ) (ok : Passes (book_verdict xs)) (a row at n m k : ℕ) (h : Row xs a row) (e : at ≡ be32 xs row)
+    (en : n ≡ get_or xs (row + 8) 0) (em : m ≡ get_or xs (row + 9) 0) (ek : k ≡ get_or xs (row + 10) 0) where
   begins : at ≡ lists_at xs a
   begins = e ∙ ap (be32 xs) h.place ∙ (known xs ok a h.there).begins
 
-  pub needs_read : Holds xs ((model_of (content xs)).needs a) at (get_or xs (row + 8) 0)
-  needs_read = rw (begins, h.place) (needs_found xs ok a h.there)
+  passed : Passed xs (be16 xs 0) n m k at
+  passed = rw (begins, en, em, ek, h.place) (known xs ok a h.there).lists
 
-  pub adds_read : Holds xs ((model_of (content xs)).adds a) (at + 2 * get_or xs (row + 8) 0) (get_or xs (row + 9) 0)
-  adds_read = rw (begins, h.place) (adds_found xs ok a h.there)
+  pub lists_found : Found xs at n m k
+  lists_found = record {
+    needs = rise xs (be16 xs 0) at n passed.needs_ok;
+    adds = rise xs (be16 xs 0) (at + 2 * n) m passed.adds_ok;
+    deletes = entries_rise xs (be16 xs 0) (at + 2 * n + 2 * m) k (deleted_entry xs (be16 xs 0) (at + 2 * n) m (at + 2 * n + 2 * m) k passed.deletes_ok);
+    needs_end = passed.needs_end;
+    adds_end = passed.adds_end;
+    deletes_end = passed.deletes_end;
+  }
 
-  pub deletes_read : Holds xs ((model_of (content xs)).deletes a) (at + 2 * get_or xs (row + 8) 0 + 2 * get_or xs (row + 9) 0) (get_or xs (row + 10) 0)
-  deletes_read = rw (begins, h.place) (deletes_found xs ok a h.there)
+  step : step_of xs a ≡ record { needs = numbers_at xs at n; adds = numbers_at xs (at + 2 * n) m; deletes = numbers_at xs (at + 2 * n + 2 * m) k; seconds = be32 xs (row + 4) }
+  step = rw (begins, en, em, ek, h.place) refl
 
--- where there is no step, an empty list is found
-none_found : (xs : List ℕ) (facts : Facts) → ((p : ℕ) → facts p ≡ false) → Holds xs facts 0 0
-none_found xs facts h = record { ends = omega arith; rising = λ i j l k. absurd (omega arith); told = λ p. sym (h p) }
-
-module _ (xs : List ℕ) (a : ℕ) (l : be16 xs 2 ≤ a) where
-  pub needs_none : Holds xs ((model_of (content xs)).needs a) 0 0
-  needs_none = none_found xs ((model_of (content xs)).needs a) (λ p. ap (λ s. listed s.needs p) (step_past xs a l))
-
-  pub adds_none : Holds xs ((model_of (content xs)).adds a) 0 0
-  adds_none = none_found xs ((model_of (content xs)).adds a) (λ p. ap (λ s. listed s.adds p) (step_past xs a l))
-
-  pub deletes_none : Holds xs ((model_of (content xs)).deletes a) 0 0
-  deletes_none = none_found xs ((model_of (content xs)).deletes a) (λ p. ap (λ s. listed s.deletes p) (step_past xs a l))
+  -- lists of these numbers say the facts of the step
+  pub lists_told : (lists : StepLists) → numbers_of lists.needs.numbers ≡ numbers_at xs at n → numbers_of lists.adds.numbers ≡ numbers_at xs (at + 2 * n) m
+      → numbers_of lists.deletes.numbers ≡ numbers_at xs (at + 2 * n + 2 * m) k → Lists xs a lists
+  lists_told lists needs adds deletes =
+      let s = sym (step_is xs a h.there ∙ step) in
+      record {
+        needs = λ p. has_listed (numbers_of lists.needs.numbers) p ∙ ap (λ ps. listed ps p) (needs ∙ ap (λ t. t.needs) s);
+        adds = λ p. has_listed (numbers_of lists.adds.numbers) p ∙ ap (λ ps. listed ps p) (adds ∙ ap (λ t. t.adds) s);
+        deletes = λ p. has_listed (numbers_of lists.deletes.numbers) p ∙ ap (λ ps. listed ps p) (deletes ∙ ap (λ t. t.deletes) s);
+      }

@@ -4,6 +4,7 @@ use Rattle.sheets.specs.declared.fault.Refusal.TheVariants.{AddedToo, Trailing}
 use Rattle.sheets.specs.Verdicts.{Verdict, must, ◌then◌, up_to}
 use Rattle.sheets.specs.Fields.{be16, be32, field, limit, offset}
 use Rattle.sheets.specs.Lists.{entry, entries, among}
+use Rattle.sheets.specs.Numbers.{has_number}
 
 -- the header: how many facts, how many steps, where the rows begin, where the lists begin
 abbrev pub header : List ℕ → Verdict
@@ -43,6 +44,11 @@ delete_count xs a = slice_index xs (row_at a + 10)
 abbrev pub deleted : List ℕ → ℕ → ℕ → ℕ → ℕ → ℕ → Verdict
 deleted xs f adds m at j =
     entry xs f at j then must (not (among xs adds m (be16 xs (at + 2 * j)))) AddedToo (at + 2 * j)
+
+-- the same, with the adds as a list of numbers
+abbrev pub deleted_from : List ℕ → ℕ → List ℕ → ℕ → ℕ → Verdict
+deleted_from xs f adds at j =
+    entry xs f at j then must (not (has_number adds (be16 xs (at + 2 * j)))) AddedToo (at + 2 * j)
 
 -- the lists of a row with n needs, m adds and k deletes, that begin at a byte
 abbrev pub lists : List ℕ → ℕ → ℕ → ℕ → ℕ → ℕ → Verdict

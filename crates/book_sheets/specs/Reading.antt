@@ -1,8 +1,8 @@
 -- What is found of a step in a book sheet.
-use Rattle.std.specs.Prelude.{◌≡◌, ℕ, ◌+◌, ◌*◌, ◌<◌, ◌≤◌, List, length}
-use Rattle.books.specs.Book.{Facts}
+use Rattle.std.specs.Prelude.{◌≡◌, ℕ, ◌+◌, ◌<◌, ◌≤◌, false, List, length}
 use Rattle.sheets.specs.Fields.{be16, be32}
-use Rattle.sheets.specs.Lists.{among, Rising}
+use Rattle.sheets.specs.Numbers.{numbers_of, has_number}
+use Rattle.book_sheets.specs.declared.step_lists.StepLists.{StepLists}
 use Rattle.book_sheets.specs.Layout.{row_at}
 use Rattle.book_sheets.specs.Content.{content, model_of}
 
@@ -18,8 +18,14 @@ pub record NoRow (xs : List ℕ) (a : ℕ) : Type 0 where
   pub past : be16 xs 2 ≤ a
   pub seconds : 0 ≡ (model_of (content xs)).seconds a
 
--- the n facts of the list at a byte stand in the sheet and ascend, and are those of a set
-pub record Holds (xs : List ℕ) (facts : Facts) (at n : ℕ) : Type 0 where
-  pub ends : at + 2 * n ≤ length xs
-  pub rising : Rising xs at n
-  pub told : (p : ℕ) → among xs at n p ≡ facts p
+-- the lists say the facts that step a needs, adds and deletes
+pub record Lists (xs : List ℕ) (a : ℕ) (lists : StepLists) : Type 0 where
+  pub needs : (p : ℕ) → has_number (numbers_of lists.needs.numbers) p ≡ (model_of (content xs)).needs a p
+  pub adds : (p : ℕ) → has_number (numbers_of lists.adds.numbers) p ≡ (model_of (content xs)).adds a p
+  pub deletes : (p : ℕ) → has_number (numbers_of lists.deletes.numbers) p ≡ (model_of (content xs)).deletes a p
+
+-- there is no step a, and it needs, adds and deletes nothing
+pub record NoLists (xs : List ℕ) (a : ℕ) : Type 0 where
+  pub needs : (p : ℕ) → false ≡ (model_of (content xs)).needs a p
+  pub adds : (p : ℕ) → false ≡ (model_of (content xs)).adds a p
+  pub deletes : (p : ℕ) → false ≡ (model_of (content xs)).deletes a p

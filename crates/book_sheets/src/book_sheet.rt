@@ -5,28 +5,13 @@ ghost use Rattle.sheets.specs.Verdicts.{verdict_on};
 ghost use Rattle.book_sheets.specs.Layout.{book_verdict};
 ghost use Rattle.book_sheets.specs.Content.{Content, content, model_of};
 ghost use Rattle.book_sheets.specs.Laws.{blank, SheetOf, OneSheet};
-ghost use Rattle.book_sheets.specs.Reading.{Row, NoRow, Holds};
+ghost use Rattle.book_sheets.specs.Reading.{Row, NoRow, Lists, NoLists};
 
 use crate::checks::check_book_sheet;
+use crate::step_lists::{Counts, StepLists};
 use books::Book;
 use sheets::fields::get;
-use sheets::lists::list_has;
-use sheets::{Sheet, SheetFault};
-
-// Where a list of facts begins in the sheet, and how many facts it has.
-#[derive(Clone, Copy)]
-struct FactList {
-    at: usize,
-    count: usize,
-}
-
-// The facts that a step needs, adds and deletes.
-#[derive(Clone, Copy)]
-struct StepLists {
-    needs: FactList,
-    adds: FactList,
-    deletes: FactList,
-}
+use sheets::{Sheet, SheetFault, SortedNumbers};
 
 // A step book that is read from the bytes of its sheet, which are lent and never copied.
 #[derive(Drop)]
@@ -53,13 +38,9 @@ impl<'a> BookSheet<'a> {
         ensures code { MatchResult result (λ _. SheetOf bytes.now (content bytes.now)) (λ _. (c : Content) → SheetOf bytes.now c → ⊥) }
         ensures law { OneSheet }
     {
-        match read_sheet(bytes) {
-            Ok(()) => {
-                self.bytes = bytes;
-                Ok(())
-            }
-            Err(fault) => Err(fault),
-        }
+        read_sheet(bytes)?;
+        self.bytes = bytes;
+        Ok(())
     }
 
     // Where the row of step `a` begins, if there is such a step.
@@ -73,39 +54,20 @@ impl<'a> BookSheet<'a> {
         }
     }
 
-    // The lists of step `a`, which are empty where there is no such step.
-    fn lists(&self, a: usize) -> StepLists
-        ensures needs { Holds self.now.bytes.now ((model_of (content self.now.bytes.now)).needs a) result.needs.at result.needs.count }
-        ensures adds { Holds self.now.bytes.now ((model_of (content self.now.bytes.now)).adds a) result.adds.at result.adds.count }
-        ensures deletes { Holds self.now.bytes.now ((model_of (content self.now.bytes.now)).deletes a) result.deletes.at result.deletes.count }
+    // The lists of step `a`, if there is such a step.
+    fn lists(&self, a: usize) -> Option<StepLists<'a>>
+        ensures { MatchOption result (NoLists self.now.bytes.now a) (λ lists. Lists self.now.bytes.now a lists) }
     {
-        match self.row(a) {
-            Some(row) => {
-                let at = get::<u32>(self.bytes, row) as usize;
-                let needs = self.bytes[row + 8] as usize;
-                let adds = self.bytes[row + 9] as usize;
-                let deletes = self.bytes[row + 10] as usize;
-                StepLists {
-                    needs: FactList { at, count: needs },
-                    adds: FactList {
-                        at: at + 2 * needs,
-                        count: adds,
-                    },
-                    deletes: FactList {
-                        at: at + 2 * needs + 2 * adds,
-                        count: deletes,
-                    },
-                }
-            }
-            None => {
-                let none = FactList { at: 0, count: 0 };
-                StepLists {
-                    needs: none,
-                    adds: none,
-                    deletes: none,
-                }
-            }
-        }
+        let row = self.row(a)?;
+        let counts = Counts::of_row(self.bytes, row);
+        let at = get::<u32>(self.bytes, row) as usize;
+        let adds_at = at + 2 * counts.needs as usize;
+        let deletes_at = adds_at + 2 * counts.adds as usize;
+        Some(StepLists {
+            needs: SortedNumbers::new(self.bytes, at, counts.needs as usize),
+            adds: SortedNumbers::new(self.bytes, adds_at, counts.adds as usize),
+            deletes: SortedNumbers::new(self.bytes, deletes_at, counts.deletes as usize),
+        })
     }
 }
 
@@ -116,10 +78,7 @@ fn read_sheet(bytes: &[u8]) -> Result<(), SheetFault>
     ensures good { OnOk result ((is_ok (book_verdict bytes.now) ≡ true) × ∥ Lawful (model_of (content bytes.now)) ∥₁) }
     ensures law { OneSheet }
 {
-    match check_book_sheet(bytes) {
-        Ok(()) => Ok(()),
-        Err(refused) => Err(refused.on(Sheet::Book)),
-    }
+    check_book_sheet(bytes).map_err(|refused| refused.on(Sheet::Book))
 }
 
 impl Book for BookSheet<'_> {
@@ -136,25 +95,19 @@ impl Book for BookSheet<'_> {
     }
 
     fn needs(&self, a: usize, p: usize) -> bool {
-        let list = self.lists(a).needs;
-        list_has(self.bytes, list.at, list.count, p)
+        self.lists(a).is_some_and(|lists| lists.needs.has(p))
     }
 
     fn adds(&self, a: usize, p: usize) -> bool {
-        let list = self.lists(a).adds;
-        list_has(self.bytes, list.at, list.count, p)
+        self.lists(a).is_some_and(|lists| lists.adds.has(p))
     }
 
     fn deletes(&self, a: usize, p: usize) -> bool {
-        let list = self.lists(a).deletes;
-        list_has(self.bytes, list.at, list.count, p)
+        self.lists(a).is_some_and(|lists| lists.deletes.has(p))
     }
 
     fn seconds(&self, a: usize) -> u32 {
-        match self.row(a) {
-            Some(row) => get::<u32>(self.bytes, row + 4),
-            None => 0,
-        }
+        self.row(a).map_or(0, |row| get::<u32>(self.bytes, row + 4))
     }
 }
 

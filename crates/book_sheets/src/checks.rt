@@ -1,12 +1,13 @@
 ghost use Rattle.std.specs.Prelude.{◌≡◌, ◌+◌, ◌*◌, ◌^◌, ◌<◌, ◌≤◌, length};
 ghost use Rattle.sheets.specs.Fields.{be16};
-ghost use Rattle.sheets.specs.Lists.{Rising};
+ghost use Rattle.sheets.specs.Numbers.{numbers_of};
 ghost use Rattle.sheets.specs.Verdicts.{Gives, up_to};
-ghost use Rattle.book_sheets.specs.Layout.{header, row, row_at, rows, deleted, lists, lists_at, step_lists, book_verdict};
+ghost use Rattle.book_sheets.specs.Layout.{header, row, row_at, rows, deleted_from, lists, lists_at, step_lists, book_verdict};
 
+use crate::step_lists::Counts;
 use sheets::fields::{begins_at, field_at, stands, within};
-use sheets::lists::{check_entry, check_list, list_has};
-use sheets::{Refusal, Refused};
+use sheets::lists::{check_entry, check_list};
+use sheets::{Refusal, Refused, SortedNumbers};
 
 // How many facts and steps the header says there are.
 #[derive(Drop)]
@@ -60,18 +61,15 @@ fn check_rows(bytes: &[u8], steps: u16) -> Result<(), Refused>
 fn check_deleted(
     bytes: &[u8],
     facts: u16,
-    adds_at: usize,
-    adds: usize,
+    adds: SortedNumbers,
     at: usize,
     j: usize,
 ) -> Result<(), Refused>
-    requires j_in_bounds { at + 2 * j ≤ length bytes.now }
-    requires adds_in_bounds { adds_at + 2 * adds ≤ length bytes.now }
-    requires rising { Rising bytes.now adds_at adds }
-    ensures { Gives result (deleted bytes.now facts adds_at adds at j) (λ _. at + 2 * j + 2 ≤ length bytes.now) }
+    requires { at + 2 * j ≤ length bytes.now }
+    ensures { Gives result (deleted_from bytes.now facts (numbers_of adds.entry.numbers) at j) (λ _. at + 2 * j + 2 ≤ length bytes.now) }
 {
     let p = check_entry(bytes, facts, at, j)?;
-    if list_has(bytes, adds_at, adds, p as usize) {
+    if adds.has(p as usize) {
         return Err(Refused {
             refusal: Refusal::AddedToo,
             place: at + 2 * j,
@@ -84,41 +82,30 @@ fn check_deleted(
 fn check_deletes(
     bytes: &[u8],
     facts: u16,
-    adds_at: usize,
-    adds: usize,
+    adds: SortedNumbers,
     at: usize,
     n: usize,
 ) -> Result<(), Refused>
-    requires at_in_bounds { at ≤ length bytes.now }
-    requires adds_in_bounds { adds_at + 2 * adds ≤ length bytes.now }
-    requires rising { Rising bytes.now adds_at adds }
-    ensures { Gives result (up_to (deleted bytes.now facts adds_at adds at) n) (λ _. at + 2 * n ≤ length bytes.now) }
+    requires { at ≤ length bytes.now }
+    ensures { Gives result (up_to (deleted_from bytes.now facts (numbers_of adds.entry.numbers) at) n) (λ _. at + 2 * n ≤ length bytes.now) }
 {
     for j in 0..n {
-        check_deleted(bytes, facts, adds_at, adds, at, j)?;
+        check_deleted(bytes, facts, adds, at, j)?;
     }
     Ok(())
 }
 
 // Where the lists at `at`, of so many needs, adds and deletes, end, if they are right.
-fn check_lists(
-    bytes: &[u8],
-    facts: u16,
-    needs: usize,
-    adds: usize,
-    deletes: usize,
-    at: usize,
-) -> Result<usize, Refused>
-    requires at_in_bounds { at ≤ length bytes.now }
-    requires needs_bound { (needs < 256) × ((adds < 256) × (deletes < 256)) }
-    ensures { Gives result (lists bytes.now facts needs adds deletes at) (λ q. (q ≡ at + 2 * needs + 2 * adds + 2 * deletes) × (q ≤ length bytes.now)) }
+fn check_lists(bytes: &[u8], facts: u16, counts: Counts, at: usize) -> Result<usize, Refused>
+    requires { at ≤ length bytes.now }
+    ensures { Gives result (lists bytes.now facts counts.needs counts.adds counts.deletes at) (λ q. (q ≡ at + 2 * counts.needs + 2 * counts.adds + 2 * counts.deletes) × (q ≤ length bytes.now)) }
 {
-    check_list(bytes, facts, at, needs)?;
-    let adds_at = at + 2 * needs;
-    check_list(bytes, facts, adds_at, adds)?;
-    let deletes_at = adds_at + 2 * adds;
-    check_deletes(bytes, facts, adds_at, adds, deletes_at, deletes)?;
-    Ok(deletes_at + 2 * deletes)
+    check_list(bytes, facts, at, counts.needs as usize)?;
+    let adds_at = at + 2 * counts.needs as usize;
+    let adds = check_list(bytes, facts, adds_at, counts.adds as usize)?;
+    let deletes_at = adds_at + 2 * counts.adds as usize;
+    check_deletes(bytes, facts, adds, deletes_at, counts.deletes as usize)?;
+    Ok(deletes_at + 2 * counts.deletes as usize)
 }
 
 // Where the lists of step `a`, that are to begin at `at`, end, if they are right.
@@ -131,10 +118,7 @@ fn check_step(bytes: &[u8], facts: u16, a: u16, at: usize) -> Result<usize, Refu
 {
     let row = 12 + 11 * a as usize;
     begins_at(bytes, row, at)?;
-    let needs = bytes[row + 8] as usize;
-    let adds = bytes[row + 9] as usize;
-    let deletes = bytes[row + 10] as usize;
-    check_lists(bytes, facts, needs, adds, deletes, at)
+    check_lists(bytes, facts, Counts::of_row(bytes, row), at)
 }
 
 // Where the lists of all steps end, if they are right.

@@ -4,6 +4,7 @@ use Rattle.std.proofs.lemmas.Bool.{cases_eq, cases_lt, ltb-true, lt-ltb, eqb-tru
 use Rattle.sheets.specs.declared.fault.Refusal.TheVariants.{OutOfRange, NotAbove}
 use Rattle.sheets.specs.Verdicts.{must}
 use Rattle.sheets.specs.Fields.{be16, field, twos}
+use Rattle.sheets.specs.Numbers.{Ascends}
 use Rattle.sheets.specs.Lists.{entry, entries, numbers_at, among, Rising, Ascending}
 use Rattle.sheets.proofs.Verdicts.{Passes, then_left, then_right, then_pass, must_true, must_pass, up_to_pass, field_room, field_pass}
 use Rattle.sheets.proofs.Stands.{Stands, length_numbers_at, read_numbers, numbers_end, get_or_numbers_at}
@@ -50,6 +51,11 @@ entries_rise xs f at n h i (suc j) l k =
       | inl same ↦ subst (λ v. be16 xs (at + 2 * v) < be16 xs (at + 2 * suc j)) (sym same) step
       | inr other ↦ let on = entries_rise xs f at n h i j (omega arith) (omega arith) in omega arith
     ]
+
+pub numbers_ascend : (xs : List ℕ) (at n : ℕ) → Rising xs at n → Ascends (numbers_at xs at n)
+numbers_ascend xs at n up i j l k =
+    let in_list : j < n = omega (arith, length_numbers_at xs at n) in
+    omega (arith, up i j l in_list, get_or_numbers_at xs at n i (omega arith), get_or_numbers_at xs at n j in_list)
 
 above_zero : (xs : List ℕ) (at i : ℕ) → (i ≡ 0) ⊎ (be16 xs (at + 2 * i - 2) < be16 xs (at + 2 * i)) → (eqb i 0 || ltb (be16 xs (at + 2 * i - 2)) (be16 xs (at + 2 * i))) ≡ true
 above_zero xs at i (inl z) = or_left (eqb i 0) _ (eq-eqb i 0 z)
@@ -103,25 +109,3 @@ among_says xs at (suc n) p h = elim (or_cases (among xs at n p) (eqb (be16 xs (a
 
 pub says_among : (xs : List ℕ) (at n p j : ℕ) → j < n → get_or (numbers_at xs at n) j 0 ≡ p → among xs at n p ≡ true
 says_among xs at n p j l e = among_found xs at p j n l (sym (get_or_numbers_at xs at n j l) ∙ e)
-
--- a look-up by halving
-module _ (xs : List ℕ) (at n p : ℕ) (up : Rising xs at n) (m : ℕ) (l : m < n) where
-  pub all_below : be16 xs (at + 2 * m) < p → (i : ℕ) → i < m + 1 → be16 xs (at + 2 * i) < p
-  all_below h i k = elim (cases_eq i m) [
-    | inl same ↦ subst (λ v. be16 xs (at + 2 * v) < p) (sym same) h
-    | inr other ↦ let u = up i m (omega arith) l in omega arith
-  ]
-
-  pub all_above : p < be16 xs (at + 2 * m) → (i : ℕ) → m ≤ i → i < n → p < be16 xs (at + 2 * i)
-  all_above h i k g = elim (cases_eq i m) [
-    | inl same ↦ subst (λ v. p < be16 xs (at + 2 * v)) (sym same) h
-    | inr other ↦ let u = up m i (omega arith) g in omega arith
-  ]
-
-pub not_among : (xs : List ℕ) (at n p low high : ℕ) → high ≤ low → ((i : ℕ) → i < low → be16 xs (at + 2 * i) < p)
-    → ((i : ℕ) → high ≤ i → i < n → p < be16 xs (at + 2 * i)) → among xs at n p ≡ false
-not_among xs at n p low high l below above =
-    among_none xs at n p (λ i k e. elim (cases_lt i low) [
-      | inl h ↦ let b = below i h in omega arith
-      | inr h ↦ let a = above i (omega arith) k in omega arith
-    ])

@@ -3,3 +3,5 @@ pub mod Stands
 pub mod Entries
 pub mod Buffers
 pub mod Writers
+pub mod Pairs
+pub mod Parts

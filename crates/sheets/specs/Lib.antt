@@ -4,6 +4,7 @@ pub mod Verdicts
 pub mod Fields
 pub mod FieldBytes
 pub mod Lists
+pub mod Numbers
 pub mod Writing
 pub mod FaultText
 pub mod Writers

@@ -1,10 +1,12 @@
 ghost use Rattle.std.specs.Prelude.{◌≡◌, ◌+◌, ◌*◌, ◌<◌, ◌≤◌, length};
 ghost use Rattle.sheets.specs.Fields.{be16};
-ghost use Rattle.sheets.specs.Lists.{entry, entries, among, Rising};
+ghost use Rattle.sheets.specs.Lists.{entry, entries, numbers_at};
+ghost use Rattle.sheets.specs.Numbers.{numbers_of};
 ghost use Rattle.sheets.specs.Verdicts.{Gives};
 
 use crate::fault::{Refusal, Refused};
 use crate::fields::{field_at, get};
+use crate::sorted_numbers::SortedNumbers;
 
 // Entry `j` of the list at `at`, if it is right.
 pub fn check_entry(bytes: &[u8], bound: u16, at: usize, j: usize) -> Result<u16, Refused>
@@ -28,36 +30,18 @@ pub fn check_entry(bytes: &[u8], bound: u16, at: usize, j: usize) -> Result<u16,
     Ok(p)
 }
 
-// Whether the list of `n` numbers below `bound` at `at` is right.
-pub fn check_list(bytes: &[u8], bound: u16, at: usize, n: usize) -> Result<(), Refused>
+// The list of `n` numbers below `bound` at `at`, if it is right.
+pub fn check_list<'a>(
+    bytes: &'a [u8],
+    bound: u16,
+    at: usize,
+    n: usize,
+) -> Result<SortedNumbers<'a>, Refused>
     requires { at ≤ length bytes.now }
-    ensures { Gives result (entries bytes.now bound at n) (λ _. at + 2 * n ≤ length bytes.now) }
+    ensures { Gives result (entries bytes.now bound at n) (λ list. (at + 2 * n ≤ length bytes.now) × (numbers_of list.numbers ≡ numbers_at bytes.now at n)) }
 {
     for j in 0..n {
         check_entry(bytes, bound, at, j)?;
     }
-    Ok(())
-}
-
-// Whether `p` is among the `n` ascending numbers of the list at `at`, found by halving.
-pub fn list_has(bytes: &[u8], at: usize, n: usize, p: usize) -> bool
-    requires n_in_bounds { at + 2 * n ≤ length bytes.now }
-    requires rising { Rising bytes.now at n }
-    ensures { result ≡ among bytes.now at n p }
-{
-    let mut low = 0;
-    let mut high = n;
-    while low < high {
-        let middle = low + (high - low) / 2;
-        let q = get::<u16>(bytes, at + 2 * middle) as usize;
-        if q == p {
-            return true;
-        }
-        if q < p {
-            low = middle + 1;
-        } else {
-            high = middle;
-        }
-    }
-    false
+    Ok(SortedNumbers::new(bytes, at, n))
 }

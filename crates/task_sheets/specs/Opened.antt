@@ -3,7 +3,7 @@ use Rattle.std.specs.Prelude.{◌≡◌, ℕ, ◌<◌, List, [], ◌∷◌, Some
 use Rattle.std.specs.Option.{option_map_or}
 use Rattle.sheets.specs.Verdicts.{fine}
 use Rattle.task_sheets.specs.declared.task_sheet.TaskSheet.{TaskSheet}
-use Rattle.task_sheets.specs.declared.numbers.Numbers.{Numbers}
+use Rattle.sheets.specs.declared.numbers.Numbers.{Numbers}
 use Rattle.task_sheets.specs.declared.levels.Levels.{Levels}
 use Rattle.task_sheets.specs.Layout.{task_verdict}
 use Rattle.task_sheets.specs.Content.{Task, no_task, encode, content, levels_from, LawfulTask}

@@ -3,25 +3,13 @@ use Rattle.std.specs.Prelude.{◌≡◌, ℕ, zero, suc, ◌-◌, ◌/◌, ◌<�
 use Rattle.std.specs.List.{between}
 use Rattle.sheets.specs.Fields.{be16}
 use Rattle.sheets.specs.Lists.{numbers_at}
-use Rattle.task_sheets.specs.declared.numbers.Numbers.{Numbers}
+pub use Rattle.sheets.specs.Numbers.{numbers_in, numbers_of, Picked}
 use Rattle.task_sheets.specs.declared.item.Part.{Part}
 use Rattle.task_sheets.specs.declared.item.Part.TheVariants.{Start as StartPart, Goal as GoalPart, Level as LevelPart}
 use Rattle.task_sheets.specs.declared.item.Item.{Item}
 use Rattle.task_sheets.specs.declared.item.Item.TheVariants.{Start, Goal, Level}
 use Rattle.task_sheets.specs.Layout.{start_at, goal_at, level_begins_at}
 use Rattle.task_sheets.specs.Content.{Task}
-
--- the numbers in bytes, two bytes to each
-abbrev pub numbers_in : List ℕ → List ℕ
-numbers_in bs = numbers_at bs 0 (length bs / 2)
-
-abbrev pub numbers_of : Numbers → List ℕ
-numbers_of n = numbers_in n.bytes.now
-
--- number j of a list, and none past its end
-abbrev pub Picked : List ℕ → ℕ → Option ℕ → Type 0
-Picked ps j None = length ps ≤ j
-Picked ps j (Some p) = (j < length ps) × (p ≡ slice_index ps j)
 
 -- the bytes that an item holds
 abbrev pub item_bytes : Item → List ℕ

@@ -1,7 +1,7 @@
 ghost use Rattle.std.specs.Prelude.{◌≡◌};
 ghost use Rattle.task_sheets.specs.Parts.{numbers_of, item_bytes, part_numbers};
 
-use crate::numbers::Numbers;
+use sheets::Numbers;
 use sheets::fields::get;
 
 // What a task sheet is asked for; levels go by their numbers from 1.

@@ -5,7 +5,7 @@ ghost use Rattle.task_sheets.specs.Content.{levels_from};
 ghost use Rattle.task_sheets.specs.Opened.{rest, Turn};
 
 use super::Levels;
-use crate::numbers::Numbers;
+use sheets::Numbers;
 use sheets::fields::get;
 
 impl<'a> Levels<'a> {

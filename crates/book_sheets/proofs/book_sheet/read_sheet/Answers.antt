@@ -1,23 +1,24 @@
-use Rattle.std.proofs.Common.{is_ok, sym, ap, ◌∙◌}
-use Rattle.std.proofs.lemmas.Bool.{both_ways}
+use Rattle.std.proofs.Common.{◌≡◌, is_ok, true, MatchResult, OnOk, sym, refl, subst, rules}
+use Rattle.books.specs.Book.{Lawful}
+use Rattle.sheets.specs.declared.fault.Sheet.TheVariants.{Book}
+use Rattle.sheets.specs.Verdicts.{verdict_on}
 use Rattle.book_sheets.specs.Layout.{book_verdict}
-use Rattle.book_sheets.proofs.Models.{one_sheet, sheet_lawful}
+use Rattle.book_sheets.specs.Content.{Content, content, model_of}
+use Rattle.book_sheets.specs.Laws.{SheetOf}
+use Rattle.book_sheets.proofs.Models.{one_sheet, code_by, good_by}
 use Rattle.book_sheets.proofs.book_sheet.read_sheet.Goals as goal
 
-pub returns-in-Ok-clause-code : goal.returns-in-Ok-clause-code
-returns-in-Ok-clause-code c =
-    one_sheet.sheet c.args.bytes.now (λ i. (c.type_inv.bytes i).fits) (ap is_ok (sym c.in-Ok.ensures))
+pub returns-clause-code : goal.returns-clause-code
+returns-clause-code c =
+    let xs = c.args.bytes.now in
+    let e : c.map_err.result ≡ verdict_on Book (book_verdict xs) = search rules in
+    subst (λ r. MatchResult r (λ _. SheetOf xs (content xs)) (λ _. (k : Content) → SheetOf xs k → ⊥)) (sym e) (code_by xs (λ i. (c.type_inv.bytes i).fits) Book (book_verdict xs) refl)
 
-pub returns-in-Ok-clause-good : goal.returns-in-Ok-clause-good
-returns-in-Ok-clause-good c =
-    let ok = ap is_ok (sym c.in-Ok.ensures) in (ok, ∣ sheet_lawful c.args.bytes.now ok ∣₁)
+pub returns-clause-good : goal.returns-clause-good
+returns-clause-good c =
+    let xs = c.args.bytes.now in
+    let e : c.map_err.result ≡ verdict_on Book (book_verdict xs) = search rules in
+    subst (λ r. OnOk r ((is_ok (book_verdict xs) ≡ true) × ∥ Lawful (model_of (content xs)) ∥₁)) (sym e) (good_by xs (λ i. (c.type_inv.bytes i).fits) Book (book_verdict xs) refl)
 
-pub returns-in-Ok-clause-law : goal.returns-in-Ok-clause-law
-returns-in-Ok-clause-law c = one_sheet
-
-pub returns-in-Err-clause-code : goal.returns-in-Err-clause-code
-returns-in-Err-clause-code c =
-    λ b s. both_ways (is_ok (book_verdict c.args.bytes.now)) (ap is_ok (sym c.in-Err.ensures)) (ap (λ v. is_ok (book_verdict v)) s.same ∙ one_sheet.opens b s.lawful)
-
-pub returns-in-Err-clause-law : goal.returns-in-Err-clause-law
-returns-in-Err-clause-law c = one_sheet
+pub returns-clause-law : goal.returns-clause-law
+returns-clause-law c = one_sheet

@@ -1,7 +1,8 @@
-use Rattle.std.proofs.Common.{arith}
+use Rattle.std.proofs.Common.{is_ok, ap, arith}
 use Rattle.std.proofs.lemmas.Result.{err_from_is_err_and}
 use Rattle.sheets.specs.Lists.{entry}
-use Rattle.sheets.proofs.Verdicts.{up_to_more, up_to_stops}
+use Rattle.sheets.proofs.Entries.{entries_rise}
+use Rattle.sheets.proofs.Verdicts.{up_to_each, up_to_more, up_to_stops}
 use Rattle.sheets.proofs.lists.check_list.Goals as goal
 
 pub returns-in_err-check_entry : goal.returns-in_err-check_entry
@@ -13,3 +14,9 @@ pub loop-j-preserved : goal.loop-j-preserved
 loop-j-preserved c =
     let h = c.in_ok-check_entry.ensures in
     (up_to_more (entry c.args.bytes.now c.args.bound c.args.at) c.loop-j.j c.loop-j.invariant.0 h.0, omega arith)
+
+-- the entries have been found right
+pub new-requires-clause-rising : goal.new-requires-clause-rising
+new-requires-clause-rising c =
+    entries_rise c.args.bytes.now c.args.bound c.args.at c.args.n
+    (λ j l. up_to_each (entry c.args.bytes.now c.args.bound c.args.at) c.loop-j.j j (omega arith) (ap is_ok c.loop-j.invariant.0))

@@ -1,12 +1,17 @@
-ghost use Rattle.std.specs.Prelude.{◌≡◌, length};
-ghost use Rattle.task_sheets.specs.Parts.{numbers_in, numbers_of, Picked};
-
-use sheets::fields::get;
+ghost use Rattle.std.specs.Prelude.{◌≡◌, length, map};
+ghost use Rattle.sheets.specs.Numbers.{number_in, numbers_in, numbers_of, Picked};
 
 // Numbers of a list, read where they lie: two bytes to each, the highest first.
 #[derive(Clone, Copy)]
 pub struct Numbers<'a> {
     bytes: &'a [u8],
+}
+
+// The number that two bytes say.
+pub(crate) fn number(pair: &[u8; 2]) -> usize
+    ensures { result ≡ number_in pair.now }
+{
+    u16::from_be_bytes(*pair) as usize
 }
 
 impl<'a> Numbers<'a> {
@@ -17,21 +22,24 @@ impl<'a> Numbers<'a> {
         Numbers { bytes }
     }
 
+    // The bytes two by two.
+    pub(crate) fn pairs(&self) -> &'a [[u8; 2]]
+        ensures { map number_in result.now ≡ numbers_of self.now }
+    {
+        self.bytes.as_chunks().0
+    }
+
     // How many numbers there are.
     pub fn len(&self) -> usize
         ensures { result ≡ length (numbers_of self.now) }
     {
-        self.bytes.len() / 2
+        self.pairs().len()
     }
 
     // Number `j`, counted from 0, if there is one.
     pub fn get(&self, j: usize) -> Option<usize>
         ensures { Picked (numbers_of self.now) j result }
     {
-        if j < self.len() {
-            Some(get::<u16>(self.bytes, 2 * j) as usize)
-        } else {
-            None
-        }
+        self.pairs().get(j).map(number)
     }
 }
