@@ -54,21 +54,12 @@ fits_from xs g i (suc n) e =
 pub levels_fit : (xs : List ℕ) → GoodSheet xs → fits xs (level_begins_at xs 0) (be16 xs 4) ≡ true
 levels_fit xs g = fits_from xs g 0 (be16 xs 4) (omega arith)
 
--- the next of the lists that stand in a sheet, and those behind it
+-- the next of the lists that stand in a sheet
 pub next_fits : (xs : List ℕ) (at n : ℕ) → 0 < n → fits xs at n ≡ true → past xs at ≤ length xs
 next_fits xs at zero l h = absurd (omega arith)
 next_fits xs at (suc n) l h = leb-true (past xs at) (length xs) (and_parts (leb (past xs at) (length xs)) (fits xs (past xs at) n) h).0
 
-rest_fits : (xs : List ℕ) (at n m : ℕ) → n ≡ suc m → fits xs at n ≡ true → fits xs (past xs at) m ≡ true
-rest_fits xs at zero m e h = absurd (omega arith)
-rest_fits xs at (suc n) m e h =
-    let z : n ≡ m = omega arith in
-    ap (fits xs (past xs at)) (sym z) ∙ (and_parts (leb (past xs at) (length xs)) (fits xs (past xs at) n) h).1
-
 module _ (xs : List ℕ) (at n r : ℕ) (l : 0 < n) (e : r ≡ be16 xs at) (h : fits xs at n ≡ true) where
-  pub turn_fits : fits xs (at + 2 + 2 * r) (n - 1) ≡ true
-  turn_fits = ap (λ v. fits xs (at + 2 + 2 * v) (n - 1)) e ∙ rest_fits xs at n (n - 1) (omega arith) h
-
   pub turn_is : (ps : List ℕ) → ps ≡ numbers_in (between (at + 2) (at + 2 + 2 * r) xs) → levels_from xs at n ≡ ps ∷ levels_from xs (at + 2 + 2 * r) (n - 1)
   turn_is ps p =
       let z : n ≡ suc (n - 1) = omega arith in

@@ -14,8 +14,7 @@ use Rattle.cards.specs.Runs.{Issued}
 use Rattle.cards.specs.Drawing.{DrawnUp}
 use Rattle.cards.specs.declared.state.State.{State}
 use Rattle.cards.specs.declared.state.State.TheVariants.{Waiting, InHand, Finished}
-use Rattle.cards.specs.declared.state.Event.{Event}
-use Rattle.cards.specs.declared.state.Event.TheVariants.{Begin, Finish, PutBack}
+use Rattle.cards.specs.declared.state.Event.TheVariants.{Begin, Finish}
 use Rattle.cards.specs.declared.fault.RunFault.TheVariants.{WrongState, Unfinished}
 use Rattle.worked.specs.Plans.{placed, preceding, Laid, card_of, moment}
 use Rattle.worked.proofs.Tests.{below, every, decides_below, decides_true}
@@ -37,15 +36,6 @@ turned_set states p x l u =
       | inl e ↦ rw e (get_or-set_same states p x Waiting l) ∙ sym (cond-true (eqb u p) x (get_or states u Waiting) (eq-eqb u p e))
       | inr n ↦ get_or-set_other states p u x Waiting n ∙ sym (cond-false (eqb u p) x (get_or states u Waiting) (ne_eqb u p n))
     ]
-
-begins : Event → Bool
-begins Begin = true
-begins Finish = false
-begins PutBack = false
-
-finish_is_none : Finish ≡ Begin → ⊥
-unfolding begins
-finish_is_none e = both_ways false refl (ap begins e)
 
 module _ (m : Model) (law : Lawful m) (places : List Place) (rows : List (List ℕ)) (span : ℕ) (room : m.facts ≤ span) where
   -- the card of a plan that is laid out is issued, every place waiting
@@ -133,6 +123,6 @@ module _ (m : Model) (law : Lawful m) (places : List Place) (rows : List (List �
     finished_shown facts' p held e =
         let a = and_parts _ _ e in
         let b = and_parts _ _ a.1 in (
-          record { there = ltb-true p (length places) a.0; state = held; cleared = λ e. absurd (finish_is_none e) },
+          record { there = ltb-true p (length places) a.0; state = held; cleared = λ e. cc },
           record { state = turned_set states p Finished (ltb-true p (length states) b.0); board = board_shown facts' p b.1 },
         )

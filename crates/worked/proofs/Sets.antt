@@ -1,6 +1,7 @@
 -- Sets of facts that have no fact from some number on, and when two of them are the same.
 use Rattle.std.proofs.Common.{◌≡◌, ℕ, ◌≤◌, Bool, true, false, not, ltb, List, [], ◌∷◌, Decides, sym, refl, ◌∙◌, inl, inr, arith}
 use Rattle.std.proofs.lemmas.Bool.{cases_lt, both_ways, and_parts, and_left, or_from, not-true, not_from_false, ltb-true, ne_eqb}
+use Rattle.std.proofs.lemmas.Bool.Decides.{nat_tests}
 use Rattle.facts.specs.Sets.{First}
 use Rattle.books.specs.Book.{Model, Lawful, Facts, after}
 use Rattle.books.specs.Listed.{listed}
@@ -14,10 +15,7 @@ alike true b = b
 alike false b = not b
 
 pub decides_alike : (a b : Bool) → Decides (alike a b) (a ≡ b)
-decides_alike true true = (λ e. refl, λ e. refl)
-decides_alike true false = (λ e. absurd (both_ways false refl e), λ e. absurd (both_ways true e refl))
-decides_alike false true = (λ e. absurd (both_ways false refl e), λ e. absurd (both_ways false refl e))
-decides_alike false false = (λ e. refl, λ e. refl)
+decides_alike a b = (grind (arith, nat_tests), grind (arith, nat_tests))
 
 -- two sets with no fact from n on that are alike below n
 pub same_shown : (n : ℕ) (f g : Facts) → Within n f → Within n g → below (λ p. alike (f p) (g p)) n ≡ true → (p : ℕ) → f p ≡ g p

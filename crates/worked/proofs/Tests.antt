@@ -3,7 +3,7 @@ use Rattle.std.proofs.Common.{◌≡◌, ℕ, zero, suc, ◌<◌, ◌≤◌, Boo
 use Rattle.std.specs.List.{ContainsAt as Has, AllByRecursion}
 use Rattle.std.specs.List.Sorted.{IsPermutation}
 use Rattle.std.proofs.ByRecursion.{all-has, all_has_itself, All-weaker, has_shuffled, Decides-by_and}
-use Rattle.std.proofs.lemmas.List.Sorted.{IsPermutation-refl, IsPermutation-cons, IsPermutation-trans, IsPermutation-swap, length_permutation}
+use Rattle.std.proofs.lemmas.List.Sorted.{IsPermutation-refl, IsPermutation-cons, IsPermutation-trans, IsPermutation-middle, length_permutation}
 use Rattle.std.proofs.lemmas.Bool.{cases_lt, cases_eq, cond_both, both_ways, and_from, and_parts, not-true, eqb-true, eqb-false, or_cases, or_parts}
 use Rattle.std.proofs.lemmas.Bool.Decides.{Decides-eqb, Decides-ltb, Decides-not, Decides-and, Decides-or, Decides-like, Decides-below_and, Decides-below_or}
 use Rattle.books.specs.Book.{Model, Lawful, Facts}
@@ -106,7 +106,7 @@ has_shown (x ∷ xs) a e =
 swapped : (a x : ℕ) (xs rest : List ℕ) → IsPermutation xs (a ∷ rest) → IsPermutation (x ∷ xs) (a ∷ x ∷ rest)
 swapped a x xs rest s =
     IsPermutation-trans (x ∷ xs) (x ∷ a ∷ rest) (a ∷ x ∷ rest) (IsPermutation-cons x xs (a ∷ rest) s)
-    (IsPermutation-swap (x ∷ a ∷ rest) (a ∷ x ∷ rest) 0 1 (omega arith) (omega arith) refl)
+    (IsPermutation-middle (x ∷ []) a rest)
 
 pub without_shuffled : (a : ℕ) (xs : List ℕ) → listed xs a ≡ true → IsPermutation xs (a ∷ without a xs)
 without_shuffled a [] e = absurd (both_ways false refl e)
