@@ -1,5 +1,5 @@
 -- How many numbers a set has, by the steps over them.
-use Rattle.std.proofs.Common.{◌≡◌, ℕ, zero, suc, ◌+◌, ◌<◌, ◌≤◌, Bool, true, false, Option, Some, None, List, [], ◌∷◌, length, sym, subst, refl, ⊎_elim, add-one, arith}
+use Rattle.std.proofs.Common.{◌≡◌, ℕ, zero, suc, ◌+◌, ◌<◌, ◌≤◌, Bool, false, None, List, [], ◌∷◌, length, sym, subst, refl, ⊎_elim, add-one, arith}
 use Rattle.std.specs.Iterator.{Drains}
 use Rattle.std.proofs.lemmas.Bool.{cases_lt}
 use Rattle.facts.specs.Sets.{holds, count, Next, GivesNext}

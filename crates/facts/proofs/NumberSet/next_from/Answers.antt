@@ -4,7 +4,7 @@ use Rattle.std.proofs.lemmas.Iterator.Consumers.{YieldsList-turn, YieldsList-end
 use Rattle.facts.specs.Sets.{bit}
 use Rattle.facts.proofs.Words.{bit_cut}
 use Rattle.facts.proofs.Rows.{clear_more, all_clear, low_below, found_from, found_here, found_before, Clear}
-use Rattle.facts.proofs.Ahead.{ahead, length_ahead, Placed, placed}
+use Rattle.facts.proofs.Ahead.{ahead, length_ahead, placed}
 use Rattle.facts.proofs.NumberSet.next_from.Goals as goal
 
 word : (w x p n l : ℕ) → w < 2 ^ 64 → w ≡ x → l ≡ p - 64 * n → (j : ℕ) → bit ((w / 2 ^ l * 2 ^ l) % 2 ^ 64) j ≡ (leb (p - 64 * n) j && bit x j)
