@@ -1,4 +1,4 @@
-use Rattle.std.proofs.Common.{rules, arith, sym, ap}
+use Rattle.std.proofs.Common.{rules}
 use Rattle.facts.proofs.Rows.{told_all}
 use Rattle.books.proofs.step_facts.gather.Goals as goal
 
