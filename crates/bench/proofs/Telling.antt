@@ -3,8 +3,10 @@ use Rattle.std.proofs.Common.{◌≡◌, ℕ, ◌+◌, ◌*◌, ◌/◌, ◌<◌
 use Rattle.std.proofs.lemmas.List.{append_assoc, append-nil}
 use Rattle.facts.specs.Sets.{holds}
 use Rattle.books.specs.Book.{Model, Facts}
-use Rattle.sheets.specs.Writing.{Wrote}
-use Rattle.sheets.proofs.Buffers.{wrote_on}
+use Rattle.sheets.specs.Writing.{written}
+use Rattle.sheets.specs.Writers.{Writes}
+use Rattle.sheets.specs.declared.writer.Writer.{Writer}
+use Rattle.sheets.proofs.Writers.{writes_on}
 use Rattle.checks.specs.Rows.{marked}
 use Rattle.checks.specs.Tables.{blank, places_in}
 use Rattle.checks.specs.declared.arrangement.Arrangement.{Arrangement}
@@ -55,25 +57,26 @@ replied_in m span span' c₀ c c' board board' q r e d h =
     subst P e (subst (λ n. Replied (setting_of m n c) (moment_of c board) q r (moment_of c' board')) d h)
 
 -- what holds after the first i requests
-pub record SoFar (m : Model) (span span' : ℕ) (c₀ : Card) (board₀ : Facts) (c : Card) (board : Facts) (script before : List ℕ) (i : ℕ) (out : List ℕ) (at : ℕ) : Type 0 where
+pub record SoFar (m : Model) (span span' : ℕ) (c₀ : Card) (board₀ : Facts) (c : Card) (board : Facts) (script : List ℕ) (i : ℕ) (old new : Writer) : Type 0 where
   pub plan : c.plan ≡ c₀.plan
   pub spanned : span' ≡ span
-  pub place : at ≡ 144 * i
+  pub front : old.at ≡ 0
+  pub place : new.at ≡ 144 * i
   pub bytes : List ℕ
   pub told : Told (setting_of m span c₀) (moment_of c₀ board₀) (requests_to script i) bytes (moment_of c board)
-  pub wrote : Wrote before 0 bytes out at
+  pub writes : Writes old bytes new
 
 requests_more : (script : List ℕ) (i : ℕ) (q : Request) → q ≡ request_in script (3 * i) → requests_to script i ++ (q ∷ []) ≡ requests_to script (i + 1)
 requests_more script i q e = rw add-one (ap (λ z. requests_to script i ++ (z ∷ [])) e)
 
 -- one request more
 pub so_far_more : (m : Model) (span span' span'' : ℕ) (c₀ : Card) (board₀ : Facts) (c : Card) (board : Facts) (c' : Card) (board' : Facts)
-    (script before : List ℕ) (i : ℕ) (out : List ℕ) (at : ℕ) (q : Request) (r : Reply) (words out' : List ℕ) (at' : ℕ)
-    → Numbered c₀ → SoFar m span span' c₀ board₀ c board script before i out at → c'.plan ≡ c.plan → span'' ≡ span'
+    (script : List ℕ) (i : ℕ) (u v w : Writer) (q : Request) (r : Reply) (words : List ℕ)
+    → Numbered c₀ → SoFar m span span' c₀ board₀ c board script i u v → c'.plan ≡ c.plan → span'' ≡ span'
     → (Numbered c → RequestReplied m span' c board q r c' board') → q ≡ request_in script (3 * i)
-    → ((p : ℕ) → holds words p ≡ board' p) → Wrote out at (bytes_of_reply r ++ word_bytes words) out' at' → at' ≡ at + 144
-    → SoFar m span span'' c₀ board₀ c' board' script before (i + 1) out' at'
-so_far_more m span span' span'' c₀ board₀ c board c' board' script before i out at q r words out' at' n h p d x e f w k =
+    → ((p : ℕ) → holds words p ≡ board' p) → Writes v (bytes_of_reply r ++ word_bytes words) w → w.at ≡ v.at + 144
+    → SoFar m span span'' c₀ board₀ c' board' script (i + 1) u w
+so_far_more m span span' span'' c₀ board₀ c board c' board' script i u v w q r words n h p d x e f o k =
     let y = replied_in m span span' c₀ c c' board board' q r h.plan h.spanned (x (numbered_on c₀ c h.plan n)) in
     let ys = h.bytes ++ (bytes_of_reply r ++ word_bytes words) in
     let s = setting_of m span c₀ in
@@ -82,23 +85,28 @@ so_far_more m span span' span'' c₀ board₀ c board c' board' script before i 
     record {
       plan = p ∙ h.plan;
       spanned = d ∙ h.spanned;
+      front = h.front;
       place = omega (arith, h.place);
       bytes = ys;
       told =
           subst (λ qs. Told s b qs ys a) (requests_more script i q e)
           (told_more s b (requests_to script i) h.bytes (moment_of c board) q r a words h.told y f);
-      wrote = wrote_on (omega arith) h.wrote w;
+      writes = writes_on h.writes o;
     }
 
 -- all requests
-pub so_far_all : (m : Model) (span span' : ℕ) (c₀ : Card) (board₀ : Facts) (c : Card) (board : Facts) (script before : List ℕ) (i : ℕ) (out : List ℕ) (at : ℕ)
-    → i ≡ length script / 3 → SoFar m span span' c₀ board₀ c board script before i out at
-    → Records (setting_of m span c₀) (moment_of c₀ board₀) script before at out
-so_far_all m span span' c₀ board₀ c board script before i out at e h =
+pub so_far_all : (m : Model) (span span' : ℕ) (c₀ : Card) (board₀ : Facts) (c : Card) (board : Facts) (script : List ℕ) (i : ℕ) (u v : Writer)
+    → i ≡ length script / 3 → (before : List ℕ) (n : ℕ) (after : List ℕ) → u.out.now ≡ before → n ≡ v.at → v.out.now ≡ after
+    → SoFar m span span' c₀ board₀ c board script i u v → Records (setting_of m span c₀) (moment_of c₀ board₀) script before n after
+so_far_all m span span' c₀ board₀ c board script i u v e before n after x y z h =
+    let w = h.writes.wrote in
     record {
       bytes = h.bytes;
       end = moment_of c board;
-      size = h.place ∙ ap (λ n. 144 * n) e;
-      told = subst (λ n. Told (setting_of m span c₀) (moment_of c₀ board₀) (requests_to script n) h.bytes (moment_of c board)) e h.told;
-      wrote = h.wrote;
+      size = y ∙ h.place ∙ ap (λ k. 144 * k) e;
+      told = subst (λ k. Told (setting_of m span c₀) (moment_of c₀ board₀) (requests_to script k) h.bytes (moment_of c board)) e h.told;
+      wrote = record {
+        bytes = sym z ∙ w.bytes ∙ ap (λ at. written u.out.now at h.bytes) h.front ∙ ap (λ xs. written xs 0 h.bytes) x;
+        place = y ∙ w.place ∙ ap (λ at. at + length h.bytes) h.front;
+      };
     }

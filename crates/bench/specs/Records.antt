@@ -2,7 +2,8 @@
 use Rattle.std.specs.Prelude.{◌≡◌, ℕ, ◌/◌, ◌%◌, List, [], ◌∷◌, ◌++◌}
 use Rattle.facts.specs.Sets.{holds}
 use Rattle.books.specs.Book.{Facts}
-use Rattle.sheets.specs.Writing.{Wrote}
+use Rattle.sheets.specs.Writers.{Writes}
+use Rattle.sheets.specs.declared.writer.Writer.{Writer}
 use Rattle.cards.specs.Faults.{run_notice}
 use Rattle.cards.specs.declared.state.State.{State}
 use Rattle.cards.specs.declared.state.State.TheVariants.{Waiting, InHand, Finished}
@@ -50,8 +51,8 @@ bytes_of_reply (Seen step level state) =
     1 ∷ step / 256 % 256 ∷ step % 256 ∷ level / 256 % 256 ∷ level % 256 ∷ code_of_state state ∷ 0 ∷ 0 ∷ 0 ∷ 0 ∷ six
 bytes_of_reply (Refused f) = 2 ∷ (run_notice f).number ∷ (eight (value_of f) ++ six)
 
--- a record is written at a place: the reply, and the facts on the board
-pub record RecordPut (before : List ℕ) (at : ℕ) (reply : Reply) (board : Facts) (after : List ℕ) (next : ℕ) : Type 0 where
+-- a record is written: the reply, and the facts on the board
+pub record RecordPut (old : Writer) (reply : Reply) (board : Facts) (new : Writer) : Type 0 where
   pub words : List ℕ
   pub facts : (q : ℕ) → holds words q ≡ board q
-  pub wrote : Wrote before at (bytes_of_reply reply ++ word_bytes words) after next
+  pub writes : Writes old (bytes_of_reply reply ++ word_bytes words) new

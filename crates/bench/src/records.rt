@@ -1,34 +1,31 @@
 // Replies and facts as bytes.
 ghost use Rattle.std.specs.Prelude.{◌≡◌, ℕ, ◌+◌, ◌/◌, ◌%◌, ◌≤◌, length};
 ghost use Rattle.facts.specs.Sets.{holds};
-ghost use Rattle.sheets.specs.Writing.{Wrote};
+ghost use Rattle.sheets.specs.Writers.{Room, Writes};
 ghost use Rattle.bench.specs.Records.{eight, word_bytes, bytes_of_reply, code_of_state, value_of, RecordPut};
 
 use boards::Board;
 use cards::{Reply, RunFault, State};
 use facts::FactSet;
-use sheets::writing::{put, put_bytes};
+use sheets::Writer;
 
-// Writes a number in eight bytes at `at`, the highest byte first, and answers the place behind them.
-pub(crate) fn put_number(out: &mut [u8], at: usize, n: usize) -> usize
-    requires { at + 8 ≤ length out.old }
-    ensures { Wrote out.old at (eight n) out.new result }
+// Writes a number in eight bytes, the highest byte first.
+pub(crate) fn put_number(writer: &mut Writer, n: usize)
+    requires { Room writer.old 8 }
+    ensures { Writes writer.old (eight n) writer.new }
 {
-    put(out, at, n as u64)
+    writer.put(n as u64);
 }
 
-// Writes a set of facts in 128 bytes at `at`, fact p as bit p % 8 of byte p / 8, and answers the place behind them.
-pub(crate) fn put_facts(out: &mut [u8], at: usize, facts: FactSet) -> usize
-    requires { at + 128 ≤ length out.old }
-    ensures bytes { Wrote out.old at (word_bytes facts.words) out.new result }
-    ensures place { result ≡ at + 128 }
+// Writes a set of facts in 128 bytes, fact p as bit p % 8 of byte p / 8.
+pub(crate) fn put_facts(writer: &mut Writer, facts: FactSet)
+    requires { Room writer.old 128 }
+    ensures bytes { Writes writer.old (word_bytes facts.words) writer.new }
+    ensures place { writer.new.at ≡ writer.old.at + 128 }
 {
-    let words = facts.words();
-    let mut next = at;
-    for i in 0..16 {
-        next = put_bytes(out, next, &u64::to_le_bytes(words[i]));
+    for word in facts.words() {
+        writer.put_bytes(&u64::to_le_bytes(word));
     }
-    next
 }
 
 // The facts on a board, as a set.
@@ -110,12 +107,12 @@ fn reply_bytes(reply: Reply) -> [u8; 16]
     }
 }
 
-// Writes a reply and the facts on the board in 144 bytes at `at`, and answers the place behind them.
-pub(crate) fn put_record<D: Board>(out: &mut [u8], at: usize, reply: Reply, board: &D) -> usize
-    requires { at + 144 ≤ length out.old }
-    ensures bytes { RecordPut out.old at reply (D.Board.set board.now) out.new result }
-    ensures place { result ≡ at + 144 }
+// Writes a reply and the facts on the board in 144 bytes.
+pub(crate) fn put_record<D: Board>(writer: &mut Writer, reply: Reply, board: &D)
+    requires { Room writer.old 144 }
+    ensures bytes { RecordPut writer.old reply (D.Board.set board.now) writer.new }
+    ensures place { writer.new.at ≡ writer.old.at + 144 }
 {
-    let at = put_bytes(out, at, &reply_bytes(reply));
-    put_facts(out, at, facts_on(board))
+    writer.put_bytes(&reply_bytes(reply));
+    put_facts(writer, facts_on(board));
 }

@@ -11,6 +11,7 @@ use boards::Board;
 use book_sheets::BookSheet;
 use books::Book;
 use cards::{Attempt, Card, Event, Request, RunFault, issue, reply};
+use sheets::Writer;
 use sheets::fields::get;
 use task_sheets::TaskSheet;
 
@@ -47,12 +48,12 @@ fn carry<B: Book, D: Board>(
     requires numbered { Numbered card.old }
     ensures { Records (setting_of (B.Book.model book.now) (D.Board.limit board.old) card.old) (moment_of card.old (D.Board.set board.old)) script.now out.old result out.new }
 {
-    let mut at = 0;
+    let mut writer = Writer::new(out);
     for i in 0..script.len() / REQUEST {
         let answer = reply(book, board, card, request_at(script, REQUEST * i));
-        at = put_record(out, at, answer, board);
+        put_record(&mut writer, answer, board);
     }
-    at
+    writer.place()
 }
 
 // Opens both sheets, issues the task on the board and carries the script out. The answer is the length of the records, or

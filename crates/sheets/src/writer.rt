@@ -3,7 +3,8 @@ ghost use Rattle.std.specs.Prelude.{◌≡◌, ◌+◌, ◌^◌, ◌<◌, length
 ghost use Rattle.sheets.specs.Writers.{Room, Writes, Skips};
 
 use crate::field::Field;
-use crate::writing::{put, put_bytes};
+use crate::writing::put_bytes;
+use std::convert::AsSlice;
 
 // A lent buffer, and the place up to which it is written.
 pub struct Writer<'a> {
@@ -66,6 +67,6 @@ impl<'a> Writer<'a> {
         requires { Room self.old T.WIDTH }
         ensures { Writes self.old (T.bytes_of n) self.new }
     {
-        self.at = put(self.out, self.at, n);
+        self.put_bytes(n.to_bytes().as_slice());
     }
 }

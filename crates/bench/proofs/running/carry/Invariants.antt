@@ -4,4 +4,4 @@ use Rattle.bench.proofs.running.carry.Given as goal
 abbrev pub invariant-loop-i : goal.invariant-loop-i
 invariant-loop-i g l =
     SoFar (g.B.Book.model l.book) (g.D.Board.limit l.initial.board) (g.D.Board.limit l.board) l.initial.card (g.D.Board.set l.initial.board) l.card (g.D.Board.set l.board)
-    l.script l.initial.out l.i l.out l.at
+    l.script l.i l.initial.writer l.writer
