@@ -7,7 +7,7 @@ use Rattle.books.proofs.Members.{length_members, members_hit, members_miss}
 use Rattle.facts.specs.Sets.{holds, Next}
 use Rattle.sheets.specs.declared.writer.Writer.{Writer}
 use Rattle.sheets.specs.Fields.{two, twos}
-use Rattle.sheets.specs.Writers.{Room, Writes}
+use Rattle.sheets.specs.Writers.{Writes}
 use Rattle.sheets.proofs.Writers.{writes_on, writes_as}
 use Rattle.book_sheets.specs.Numbers.{numbers_in}
 use Rattle.book_sheets.proofs.Listing.{member_room, twos_push}
@@ -43,8 +43,8 @@ next_room P k p n h l =
     let r = member_room P k n l h.here in
     omega arith
 
-pub next_put : {u v w : Writer} (P : Facts) (p n : ℕ) → Room u 0 → Next P p n → Writes u (twos (members P p)) v → Writes v (two n) w → Writes u (twos (members P (n + 1))) w
-next_put P p n r h before here =
+pub next_put : {u v w : Writer} (P : Facts) (p n : ℕ) → Next P p n → Writes u (twos (members P p)) v → Writes v (two n) w → Writes u (twos (members P (n + 1))) w
+next_put P p n h before here =
     let e : twos (members P (n + 1)) ≡ twos (members P p) ++ two n =
     ap twos (members_hit P n h.here) ∙ twos_push (members P n) n ∙ ap (λ ps. twos ps ++ two n) (members_gap P p n h.from h.before) in
-    writes_as (sym e) (writes_on r before here)
+    writes_as (sym e) (writes_on before here)

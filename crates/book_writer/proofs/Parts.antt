@@ -24,21 +24,21 @@ row_as : (lists : ℕ) (s : Step) (z : Sizes) → SizesOf s z
     → four lists ++ (four s.seconds ++ (z.needs ∷ z.adds ∷ z.deletes ∷ [])) ≡ step_row lists s
 row_as lists s z h = let n = h.needs in let a = h.adds in let d = h.deletes in cc
 
-pub row_put : {u v w : Writer} (m : Model) (first a lists seconds : ℕ) (z : Sizes) → Room u 0
+pub row_put : {u v w : Writer} (m : Model) (first a lists seconds : ℕ) (z : Sizes)
     → lists ≡ first + length (all_lists (steps_in m a)) → seconds ≡ m.seconds a → SizesOf (step_in m a) z
     → WritesBytes u (step_rows first (steps_in m a)) v
     → WritesBytes v (four lists ++ (four seconds ++ (z.needs ∷ z.adds ∷ z.deletes ∷ []))) w
     → WritesBytes u (step_rows first (steps_in m (a + 1))) w
-row_put m first a lists seconds z h e f g before here =
+row_put m first a lists seconds z e f g before here =
     let r : four lists ++ (four seconds ++ (z.needs ∷ z.adds ∷ z.deletes ∷ [])) ≡ step_row (first + length (all_lists (steps_in m a))) (step_in m a) =
     ap (λ s. four lists ++ (four s ++ (z.needs ∷ z.adds ∷ z.deletes ∷ []))) f ∙ row_as lists (step_in m a) z g ∙ ap (λ n. step_row n (step_in m a)) e in
-    writes_as (sym (ap (step_rows first) (steps_more m a) ∙ rows_more first (steps_in m a) (step_in m a))) (writes_on h before (writes_as r here))
+    writes_as (sym (ap (step_rows first) (steps_more m a) ∙ rows_more first (steps_in m a) (step_in m a))) (writes_on before (writes_as r here))
 
 -- the lists, step after step
-pub lists_put : {u v w : Writer} (m : Model) (a : ℕ) → Room u 0
+pub lists_put : {u v w : Writer} (m : Model) (a : ℕ)
     → WritesBytes u (all_lists (steps_in m a)) v → WritesBytes v (lists_of (step_in m a)) w → WritesBytes u (all_lists (steps_in m (a + 1))) w
-lists_put m a h before here =
-    writes_as (sym (ap all_lists (steps_more m a) ∙ lists_more (steps_in m a) (step_in m a))) (writes_on h before here)
+lists_put m a before here =
+    writes_as (sym (ap all_lists (steps_more m a) ∙ lists_more (steps_in m a) (step_in m a))) (writes_on before here)
 
 -- the sheet is its parts, one after the other
 pub sheet_parts : (m : Model) → (header_of m ++ rows_of m) ++ lists_in m ≡ bytes_of m

@@ -1,5 +1,4 @@
 use Rattle.std.proofs.Common.{◌+◌, length, arith}
-use Rattle.sheets.proofs.Writers.{writes_room}
 use Rattle.book_sheets.specs.Content.{step_in, lists_of}
 use Rattle.book_writer.proofs.Lengths.{length_lists_more, all_lists_up}
 use Rattle.book_writer.proofs.Parts.{lists_put}
@@ -10,7 +9,8 @@ put_lists-requires g c =
     let m = g.B.Book.model c.args.book.now in
     let more = length_lists_more m c.loop-a.a in
     let up = all_lists_up m (c.loop-a.a + 1) m.steps (omega arith) in
-    writes_room (length (lists_of (step_in m c.loop-a.a))) (omega arith) c.loop-a.invariant
+    let w = c.loop-a.invariant in
+    omega (arith, w.wrote.place, w.long)
 
 pub loop-a-preserved : goal.loop-a-preserved
-loop-a-preserved g c = lists_put (g.B.Book.model c.args.book.now) c.loop-a.a (omega arith) c.loop-a.invariant c.put_lists.ensures
+loop-a-preserved g c = lists_put (g.B.Book.model c.args.book.now) c.loop-a.a c.loop-a.invariant c.put_lists.ensures

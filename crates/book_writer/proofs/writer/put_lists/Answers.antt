@@ -2,7 +2,7 @@ use Rattle.std.proofs.Common.{◌*◌, length, ap, arith, length-append}
 use Rattle.std.proofs.lemmas.List.{append_assoc}
 use Rattle.sheets.specs.Fields.{twos}
 use Rattle.sheets.proofs.Stands.{length_twos}
-use Rattle.sheets.proofs.Writers.{writes_on, writes_as, writes_room}
+use Rattle.sheets.proofs.Writers.{writes_on, writes_as}
 use Rattle.book_sheets.specs.Content.{step_in}
 use Rattle.book_sheets.specs.Numbers.{numbers_in}
 use Rattle.book_writer.proofs.Lengths.{step_lists, length_lists}
@@ -24,7 +24,7 @@ put_numbers-requires-2 g c =
     let n = length_twos s.needs in
     let a = ap length l.adds.numbers in
     let needs = writes_as (ap twos l.needs.numbers) c.put_numbers.ensures in
-    (omega arith, writes_room (2 * length (numbers_in c.gather-facts.result.adds.words 16)) (omega arith) needs)
+    (omega arith, omega (arith, needs.wrote.place, needs.long))
 
 pub put_numbers-requires-3 : goal.put_numbers-requires-3
 put_numbers-requires-3 g c =
@@ -34,10 +34,9 @@ put_numbers-requires-3 g c =
     let n = length_twos s.needs in
     let a = length_twos s.adds in
     let d = ap length l.deletes.numbers in
-    let b = length-append (twos s.needs) (twos s.adds) in
     let needs = writes_as (ap twos l.needs.numbers) c.put_numbers.ensures in
     let adds = writes_as (ap twos l.adds.numbers) c.put_numbers-2.ensures in
-    (omega arith, writes_room (2 * length (numbers_in c.gather-facts.result.deletes.words 16)) (omega arith) (writes_on (omega arith) needs adds))
+    (omega arith, omega (arith, needs.wrote.place, needs.long, adds.wrote.place, adds.long))
 
 pub returns : goal.returns
 returns g c =
@@ -46,4 +45,4 @@ returns g c =
     let needs = writes_as (ap twos l.needs.numbers) c.put_numbers.ensures in
     let adds = writes_as (ap twos l.adds.numbers) c.put_numbers-2.ensures in
     let deletes = writes_as (ap twos l.deletes.numbers) c.put_numbers-3.ensures in
-    writes_as (append_assoc (twos s.needs) (twos s.adds) (twos s.deletes)) (writes_on (omega arith) (writes_on (omega arith) needs adds) deletes)
+    writes_as (append_assoc (twos s.needs) (twos s.adds) (twos s.deletes)) (writes_on (writes_on needs adds) deletes)

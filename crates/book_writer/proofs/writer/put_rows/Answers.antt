@@ -1,5 +1,4 @@
 use Rattle.std.proofs.Common.{◌+◌, ◌*◌, arith}
-use Rattle.sheets.proofs.Writers.{writes_room}
 use Rattle.book_sheets.specs.Content.{step_in}
 use Rattle.book_writer.proofs.Lengths.{length_lists, length_lists_more}
 use Rattle.book_writer.proofs.Parts.{row_room, lists_fit, row_put}
@@ -14,7 +13,8 @@ overflow_cast-lists g c =
 pub put_row-requires : goal.put_row-requires
 put_row-requires g c =
     let k = row_room (g.B.Book.model c.args.book.now) (12 + 11 * c.steps-steps.result) c.loop-a.a in
-    writes_room 11 (omega arith) c.loop-a.invariant.0
+    let w = c.loop-a.invariant.0 in
+    omega (arith, w.wrote.place, w.long)
 
 pub overflow_add-lists-in-loop-a : goal.overflow_add-lists-in-loop-a
 overflow_add-lists-in-loop-a g c =
@@ -28,6 +28,6 @@ loop-a-preserved g c =
     let e = c.loop-a.invariant.1 in
     let more = length_lists_more m c.loop-a.a in
     let l = length_lists (step_in m c.loop-a.a) in (
-      row_put m (12 + 11 * c.steps-steps.result) c.loop-a.a c.loop-a.lists c.seconds.result c.of-sizes.result (omega arith) e c.seconds.ensures c.of-sizes.ensures c.loop-a.invariant.0 c.put_row.ensures,
+      row_put m (12 + 11 * c.steps-steps.result) c.loop-a.a c.loop-a.lists c.seconds.result c.of-sizes.result e c.seconds.ensures c.of-sizes.ensures c.loop-a.invariant.0 c.put_row.ensures,
       omega arith,
     )

@@ -1,6 +1,5 @@
 use Rattle.std.proofs.Common.{◌+◌, ◌*◌, length, ap, rules, arith}
-use Rattle.sheets.specs.Writers.{Room}
-use Rattle.sheets.proofs.Writers.{writes_on, writes_as, writes_room, writes_front}
+use Rattle.sheets.proofs.Writers.{writes_on, writes_as, writes_front}
 use Rattle.book_writer.specs.Parts.{lists_in}
 use Rattle.book_writer.proofs.Lengths.{length_sheet}
 use Rattle.book_writer.proofs.Parts.{row_room, sheet_parts}
@@ -11,7 +10,7 @@ put_rows-requires g c =
     let m = g.B.Book.model c.args.book.now in
     let l = length_sheet m in
     let n = ap length c.new-writer.ensures.bytes in
-    writes_room (11 * m.steps) (omega arith) c.put_header.ensures
+    omega (arith, c.put_header.ensures.wrote.place, c.put_header.ensures.long)
 
 pub put_all_lists-requires : goal.put_all_lists-requires
 put_all_lists-requires g c =
@@ -19,10 +18,11 @@ put_all_lists-requires g c =
     let l = length_sheet m in
     let r = row_room m (12 + 11 * m.steps) m.steps in
     let n = ap length c.new-writer.ensures.bytes in
-    writes_room (length (lists_in m)) (omega arith) (writes_on (omega arith) c.put_header.ensures c.put_rows.ensures)
+    let h = c.put_header.ensures in
+    let w = c.put_rows.ensures in
+    omega (arith, h.wrote.place, h.long, w.wrote.place, w.long)
 
 pub returns : goal.returns
 returns g c =
-    let room : Room c.new-writer.result 0 = omega (arith, ap length c.new-writer.ensures.bytes) in
     writes_front (search rules) c.new-writer.ensures.front c.new-writer.ensures.bytes
-    (writes_as (sheet_parts (g.B.Book.model c.args.book.now)) (writes_on room (writes_on room c.put_header.ensures c.put_rows.ensures) c.put_all_lists.ensures))
+    (writes_as (sheet_parts (g.B.Book.model c.args.book.now)) (writes_on (writes_on c.put_header.ensures c.put_rows.ensures) c.put_all_lists.ensures))
