@@ -4,7 +4,7 @@ use Rattle.std.proofs.lemmas.List.{append_assoc}
 use Rattle.books.specs.Book.{Model, Lawful}
 use Rattle.sheets.specs.Fields.{two, four}
 use Rattle.sheets.specs.declared.writer.Writer.{Writer}
-use Rattle.sheets.specs.Writers.{Room, Writes as WritesBytes}
+use Rattle.sheets.specs.Writers.{Writes as WritesBytes}
 use Rattle.sheets.proofs.Writers.{writes_on, writes_as}
 use Rattle.book_writer.specs.declared.writer.Sizes.{Sizes}
 use Rattle.book_sheets.specs.Content.{Step, step_row, step_rows, lists_of, all_lists, step_in, steps_in}

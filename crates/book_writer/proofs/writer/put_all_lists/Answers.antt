@@ -1,5 +1,4 @@
-use Rattle.std.proofs.Common.{◌+◌, length, arith}
-use Rattle.book_sheets.specs.Content.{step_in, lists_of}
+use Rattle.std.proofs.Common.{◌+◌, arith}
 use Rattle.book_writer.proofs.Lengths.{length_lists_more, all_lists_up}
 use Rattle.book_writer.proofs.Parts.{lists_put}
 use Rattle.book_writer.proofs.writer.put_all_lists.Goals as goal

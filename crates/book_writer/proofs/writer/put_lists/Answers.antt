@@ -1,10 +1,9 @@
-use Rattle.std.proofs.Common.{◌*◌, length, ap, arith, length-append}
+use Rattle.std.proofs.Common.{length, ap, arith}
 use Rattle.std.proofs.lemmas.List.{append_assoc}
 use Rattle.sheets.specs.Fields.{twos}
 use Rattle.sheets.proofs.Stands.{length_twos}
 use Rattle.sheets.proofs.Writers.{writes_on, writes_as}
 use Rattle.book_sheets.specs.Content.{step_in}
-use Rattle.book_sheets.specs.Numbers.{numbers_in}
 use Rattle.book_writer.proofs.Lengths.{step_lists, length_lists}
 use Rattle.book_writer.proofs.writer.put_lists.Goals as goal
 

@@ -1,6 +1,5 @@
 use Rattle.std.proofs.Common.{◌+◌, ◌*◌, length, ap, rules, arith}
 use Rattle.sheets.proofs.Writers.{writes_on, writes_as, writes_front}
-use Rattle.book_writer.specs.Parts.{lists_in}
 use Rattle.book_writer.proofs.Lengths.{length_sheet}
 use Rattle.book_writer.proofs.Parts.{row_room, sheet_parts}
 use Rattle.book_writer.proofs.writer.put_sheet.Goals as goal
