@@ -1,40 +1,43 @@
-ghost use Rattle.std.specs.Prelude.{◌≡◌, ℕ, false};
-ghost use Rattle.facts.specs.Sets.{holds};
+ghost use Rattle.std.specs.Prelude.{◌≡◌, ◌≢◌, Decides};
+ghost use Rattle.books.specs.Book.{Model};
+ghost use Rattle.books.specs.Gathered.{Gathers};
+ghost use Rattle.plans.specs.Steps.{Authorizes};
 
 use crate::arrangement::Place;
+use crate::authorize::authorizes;
 use arrayvec::ArrayVec;
 use books::StepFacts;
 use facts::FactSet;
 
-// A place of a level that has passed, with the facts of its step.
+// A step at its place, with its facts.
 #[derive(Clone, Copy)]
 pub(crate) struct PlacedStep {
     pub(crate) place: Place,
     pub(crate) facts: StepFacts,
 }
 
+// The places of the levels that have passed, in order.
+pub(crate) type Draft = ArrayVec<PlacedStep, 256>;
+
+impl PlacedStep {
+    // Whether this step authorizes the other one.
+    pub(crate) fn authorizes(&self, other: &PlacedStep) -> bool
+        ensures { (m : Model) → Gathers m self.now.place.step self.now.facts → Gathers m other.now.place.step other.now.facts → Decides result (Authorizes m self.now.place.step other.now.place.step) }
+    {
+        self.place.step != other.place.step && authorizes(&self.facts, &other.facts)
+    }
+}
+
+// What fills the room of a draft that is not in use. By hand: no Default is derived for a set, which has ghost fields.
 impl Default for PlacedStep {
     fn default() -> PlacedStep {
         PlacedStep {
             place: Place { step: 0, level: 0 },
-            facts: no_facts(),
+            facts: StepFacts {
+                needs: FactSet::empty(),
+                adds: FactSet::empty(),
+                deletes: FactSet::empty(),
+            },
         }
-    }
-}
-
-// The places of the levels that have passed, in order.
-pub(crate) type Draft = ArrayVec<PlacedStep, 256>;
-
-// A step without facts.
-pub(crate) fn no_facts() -> StepFacts
-    ensures needs { (q : ℕ) → holds result.needs.words q ≡ false }
-    ensures adds { (q : ℕ) → holds result.adds.words q ≡ false }
-    ensures deletes { (q : ℕ) → holds result.deletes.words q ≡ false }
-{
-    let none = FactSet::empty();
-    StepFacts {
-        needs: none,
-        adds: none,
-        deletes: none,
     }
 }

@@ -6,16 +6,17 @@ ghost use Rattle.books.specs.Book.{Model};
 ghost use Rattle.plans.specs.Steps.{Met, passed};
 ghost use Rattle.plans.specs.Plans.{Ascending, Authorized};
 ghost use Rattle.plans.specs.Order.{Before, Picked};
+ghost use Rattle.task_sheets.specs.Parts.{numbers_of};
 ghost use Rattle.checks.specs.Drafts.{steps_of, levels_of, Told};
 ghost use Rattle.checks.specs.Levels.{RowAt, Rowed, ReadyAt, Grown, LevelRefused, LevelPassed};
 
 use crate::arrangement::Place;
-use crate::authorize::authorizes;
 use crate::draft::{Draft, PlacedStep};
 use crate::fault::PlanFault;
 use arrayvec::ArrayVec;
 use books::{Book, gather};
 use facts::{FactSet, PlaceSet};
+use task_sheets::Numbers;
 
 // A level with its needs met: its steps as they stand in the task, each with its facts.
 #[derive(Drop)]
@@ -54,15 +55,14 @@ impl Level {
     fn gathered<B: Book>(
         book: &B,
         facts: &FactSet,
-        steps: &[u16],
+        steps: &Numbers,
         number: usize,
     ) -> Result<Level, PlanFault>
-        requires { (Ascending steps.now) × (length steps.now ≤ 256) }
-        ensures { MatchResult result (λ level. (steps_of level.steps.items ≡ steps.now) × (level.number ≡ number) × AllByRecursion (Met (B.Book.model book.now) (holds facts.now.words)) steps.now × Told (B.Book.model book.now) level.steps.items) (LevelRefused (B.Book.model book.now) (holds facts.now.words) steps.now number) }
+        requires { (Ascending (numbers_of steps.now)) × (length (numbers_of steps.now) ≤ 256) }
+        ensures { MatchResult result (λ level. (steps_of level.steps.items ≡ numbers_of steps.now) × (level.number ≡ number) × AllByRecursion (Met (B.Book.model book.now) (holds facts.now.words)) (numbers_of steps.now) × Told (B.Book.model book.now) level.steps.items) (LevelRefused (B.Book.model book.now) (holds facts.now.words) (numbers_of steps.now) number) }
     {
         let mut placed = ArrayVec::new();
-        for step in steps {
-            let step = *step as usize;
+        while let Some(step) = steps.get(placed.len()) {
             let gathered = gather(book, step);
             if let Some(fact) = gathered.needs.first_outside(facts) {
                 return Err(PlanFault::NeedMissing {
@@ -91,7 +91,7 @@ impl Level {
         ensures { (m : Model) → Told m self.now.steps.items → Decides result (Before m (slice_index (steps_of self.now.steps.items) j) (slice_index (steps_of self.now.steps.items) i)) }
     {
         let steps = self.steps.as_slice();
-        steps[j].place.step != steps[i].place.step && !authorizes(&steps[i].facts, &steps[j].facts)
+        steps[j].place.step != steps[i].place.step && !steps[i].authorizes(&steps[j])
     }
 
     // The positions of the steps that come before the step at `i`.
@@ -122,7 +122,7 @@ impl Level {
         let rows = self.rows();
         let steps = self.steps.as_slice();
         let mut left = PlaceSet::from_fn(steps.len(), |_| true);
-        for _turn in 0..steps.len() {
+        for _turn in steps {
             let i = first_ready(&left, &rows, steps.len()).ok_or(PlanFault::NoOrder {
                 level: self.number,
             })?;
@@ -151,12 +151,12 @@ impl Level {
 pub(crate) fn pass_level<B: Book>(
     book: &B,
     facts: [u64; 16],
-    steps: &[u16],
+    steps: &Numbers,
     number: usize,
     draft: &mut Draft,
 ) -> Result<[u64; 16], PlanFault>
-    requires { (Ascending steps.now) × (length draft.old.items + length steps.now ≤ 256) }
-    ensures { MatchResult result (λ after. LevelPassed (B.Book.model book.now) (holds facts) steps.now number after draft.old.items draft.new.items) (LevelRefused (B.Book.model book.now) (holds facts) steps.now number) }
+    requires { (Ascending (numbers_of steps.now)) × (length draft.old.items + length (numbers_of steps.now) ≤ 256) }
+    ensures { MatchResult result (λ after. LevelPassed (B.Book.model book.now) (holds facts) (numbers_of steps.now) number after draft.old.items draft.new.items) (LevelRefused (B.Book.model book.now) (holds facts) (numbers_of steps.now) number) }
 {
     let start = FactSet::of(facts);
     let level = Level::gathered(book, &start, steps, number)?;

@@ -1,5 +1,5 @@
 // The lists of a task, read where they lie.
-ghost use Rattle.std.specs.Prelude.{◌≡◌, ℕ, ◌<◌, ◌≤◌, ◌&&◌, length, take, nat_lt, slice_index};
+ghost use Rattle.std.specs.Prelude.{◌≡◌, ℕ, ◌&&◌, nat_lt};
 ghost use Rattle.facts.specs.Sets.{holds};
 ghost use Rattle.books.specs.Listed.{listed};
 ghost use Rattle.task_sheets.specs.Parts.{numbers_of, list_of};
@@ -8,7 +8,7 @@ ghost use Rattle.task_sheets.specs.Opened.{task_of};
 use facts::FactSet;
 use task_sheets::{Numbers, Part, TaskSheet};
 
-// The set of the numbers in a list that are below 1,024.
+// The set of the numbers in a list that are below 1,024. The list is read number by number where it lies in the lent sheet.
 fn set_of(numbers: &Numbers) -> FactSet
     ensures { (q : ℕ) → holds result.words q ≡ (nat_lt q 1024 && listed (numbers_of numbers.now) q) }
 {
@@ -29,20 +29,4 @@ pub fn part_set(task: &TaskSheet, which: Part) -> FactSet
         Some(item) => set_of(&item.numbers()),
         None => FactSet::empty(),
     }
-}
-
-// Copies the steps of a level, and says how many there are.
-pub(crate) fn copy_steps(level: &Numbers, steps: &mut [u16; 256]) -> usize
-    requires level_len_bound { length (numbers_of level.now) ≤ 256 }
-    requires by_index { (j : ℕ) → j < length (numbers_of level.now) → slice_index (numbers_of level.now) j < 1024 }
-    ensures count { result ≡ length (numbers_of level.now) }
-    ensures steps { take result steps.new ≡ numbers_of level.now }
-{
-    let count = level.len();
-    for j in 0..count {
-        if let Some(step) = level.get(j) {
-            steps[j] = step as u16;
-        }
-    }
-    count
 }

@@ -2,37 +2,29 @@
 ghost use Rattle.std.specs.Prelude.{◌≡◌, ℕ, ◌<◌, ◌≤◌, false, length, Decides};
 ghost use Rattle.facts.specs.Sets.{holds};
 ghost use Rattle.books.specs.Book.{Model};
-ghost use Rattle.plans.specs.Steps.{Authorizes};
 ghost use Rattle.plans.specs.Places.{Precedes, InOrder};
 ghost use Rattle.task_sheets.specs.Content.{Task};
 ghost use Rattle.checks.specs.Arrangements.{Arranges};
 ghost use Rattle.checks.specs.Drafts.{Filled, PlanDrafted, places_of};
 
 use crate::arrangement::{Arrangement, Place};
-use crate::authorize::{authorizes, feeds};
+use crate::authorize::feeds;
 use crate::draft::PlacedStep;
 use facts::PlaceSet;
-
-// Whether the step of place `u` authorizes the step of place `v`.
-fn lets(draft: &[PlacedStep], u: usize, v: usize) -> bool
-    requires { (u < length draft.now) × (v < length draft.now) }
-    ensures { (m : Model) → Filled m draft.now → Decides result (Authorizes m ((places_of draft.now).step u) ((places_of draft.now).step v)) }
-{
-    draft[u].place.step != draft[v].place.step && authorizes(&draft[u].facts, &draft[v].facts)
-}
 
 // Whether place `u` precedes the later place `v`.
 fn goes_before(draft: &[PlacedStep], u: usize, v: usize) -> bool
     requires { (u < v) × (v < length draft.now) }
     ensures { (m : Model) → Filled m draft.now → InOrder m (places_of draft.now) → Decides result (Precedes m (places_of draft.now) u v) }
 {
-    if !lets(draft, v, u) {
+    let (first, later) = (&draft[u], &draft[v]);
+    if !later.authorizes(first) {
         return true;
     }
-    if draft[u].place.level == draft[v].place.level {
+    if first.place.level == later.place.level {
         return false;
     }
-    !lets(draft, u, v) || feeds(&draft[u].facts, &draft[v].facts)
+    !first.authorizes(later) || feeds(&first.facts, &later.facts)
 }
 
 // The places that precede place `v`; all of them are below it.

@@ -16,16 +16,6 @@ loop-i-init-derived g c =
     let z : c.into_iter-i-iterator.result.count ≡ 0 = cc in
     ((tt, tt, inl (omega (arith, ap length e))), tt)
 
-pub copy_steps-count-requires : goal.copy_steps-count-requires
-copy_steps-count-requires g c =
-    let t = task_of c.args.task.now in
-    let w = sheet_lawful c.args.task.now in
-    let k = c.loop-i.i-iterator.count in
-    let n = next_of t.levels k (numbers_of c.in-Some.level) (rest c.next.new.self.iter) (rest c.loop-i.i-iterator.iter) c.loop-i.invariant.to_come c.in-Some.ensures.steps.0 in record {
-      level_len_bound = omega (arith, level_room (g.B.Book.model c.args.book.now) t k c.loop-i.facts c.loop-i.draft.items c.loop-i.invariant.passed _ n.0 n.1 w);
-      by_index = λ j l. omega (arith, (level_lawful (g.B.Book.model c.args.book.now) t k c.loop-i.facts c.loop-i.draft.items c.loop-i.invariant.passed _ n.0 n.1 w).ascending.below j l, w.few_steps);
-    }
-
 pub pass_level-requires : goal.pass_level-requires
 pass_level-requires g c =
     let t = task_of c.args.task.now in
@@ -33,12 +23,10 @@ pass_level-requires g c =
     let k = c.loop-i.i-iterator.count in
     let ps = numbers_of c.in-Some.level in
     let n = next_of t.levels k ps (rest c.next.new.self.iter) (rest c.loop-i.i-iterator.iter) c.loop-i.invariant.to_come c.in-Some.ensures.steps.0 in
-    let bs = take c.copy_steps-count.result c.copy_steps-count.new.steps in
-    let e : bs ≡ ps = c.copy_steps-count.ensures.steps in
     let r = level_room (g.B.Book.model c.args.book.now) t k c.loop-i.facts c.loop-i.draft.items c.loop-i.invariant.passed ps n.0 n.1 w in
     let a = (level_lawful (g.B.Book.model c.args.book.now) t k c.loop-i.facts c.loop-i.draft.items c.loop-i.invariant.passed ps n.0 n.1 w).ascending in (
-      subst plans.Ascending (sym e) (ascending _ ps a),
-      omega (arith, ap length e),
+      ascending _ ps a,
+      r,
     )
 
 pub returns-in_err-facts : goal.returns-in_err-facts
@@ -48,11 +36,9 @@ returns-in_err-facts g c =
     let k = c.loop-i.i-iterator.count in
     let ps = numbers_of c.in-Some.level in
     let n = next_of t.levels k ps (rest c.next.new.self.iter) (rest c.loop-i.i-iterator.iter) c.loop-i.invariant.to_come c.in-Some.ensures.steps.0 in
-    let bs = take c.copy_steps-count.result c.copy_steps-count.new.steps in
-    let e : bs ≡ ps = c.copy_steps-count.ensures.steps in
     let p = err_from_is_err_and c.from_residual.result c.from_residual.ensures.1 in
-    let r = subst (λ i. LevelRefused m (holds c.loop-i.facts) bs (i + 1) c.in_err-facts.field-0.0) c.in-Some.ensures.steps.1 c.in_err-facts.ensures in
-    rw (p.1, p.2) (level_refused m t k c.loop-i.facts c.loop-i.draft.items c.loop-i.invariant.passed _ n.0 (n.1 ∙ sym e) c.requires.0 _ r)
+    let r = subst (λ i. LevelRefused m (holds c.loop-i.facts) ps (i + 1) c.in_err-facts.field-0.0) c.in-Some.ensures.steps.1 c.in_err-facts.ensures in
+    rw (p.1, p.2) (level_refused m t k c.loop-i.facts c.loop-i.draft.items c.loop-i.invariant.passed _ n.0 n.1 c.requires.0 _ r)
 
 pub loop-i-preserved : goal.loop-i-preserved
 loop-i-preserved g c =
@@ -61,12 +47,9 @@ loop-i-preserved g c =
     let k = c.loop-i.i-iterator.count in
     let ps = numbers_of c.in-Some.level in
     let n = next_of t.levels k ps (rest c.next.new.self.iter) (rest c.loop-i.i-iterator.iter) c.loop-i.invariant.to_come c.in-Some.ensures.steps.0 in
-    let bs = take c.copy_steps-count.result c.copy_steps-count.new.steps in
-    let e : bs ≡ ps = c.copy_steps-count.ensures.steps in
     let on = c.in-Some.ensures.steps.2 in
-    let pass = subst (λ i. LevelPassed m (holds c.loop-i.facts) bs (i + 1) c.in_ok-facts.facts c.loop-i.draft.items c.pass_level.new.draft.items) c.in-Some.ensures.steps.1 c.in_ok-facts.ensures in
+    let pass = subst (λ i. LevelPassed m (holds c.loop-i.facts) ps (i + 1) c.in_ok-facts.facts c.loop-i.draft.items c.pass_level.new.draft.items) c.in-Some.ensures.steps.1 c.in_ok-facts.ensures in
     record {
       to_come = rw on n.2;
-      room = omega arith;
-      passed = rw on (drafted_more m t k c.loop-i.facts c.loop-i.draft.items c.loop-i.invariant.passed _ n.0 (n.1 ∙ sym e) _ _ pass);
+      passed = rw on (drafted_more m t k c.loop-i.facts c.loop-i.draft.items c.loop-i.invariant.passed _ n.0 n.1 _ _ pass);
     }

@@ -54,7 +54,7 @@ returns c m t w =
     let i = c.loop-v.invariant in
     let done : length d ≡ c.loop-v.v = omega arith in
     let same : (u : ℕ) → get_or c.loop-v.places u blank ≡ get_or (placed d) u blank =
-        λ u. i.copied u ∙ ap (λ ps. get_or ps u blank) (take_all c.loop-v.v (placed d) (omega (arith, length-map d (λ (s : PlacedStep). s.place)))) in
+    λ u. i.copied u ∙ ap (λ ps. get_or ps u blank) (take_all c.loop-v.v (placed d) (omega (arith, length-map d (λ (s : PlacedStep). s.place)))) in
     let e = sym (same_places (length d) c.loop-v.places (placed d) same) in
     let o = ascent m t.levels (places_of d) w.arranged in
     record {
