@@ -13,7 +13,8 @@ pub struct Place {
     pub level: usize,
 }
 
-// The places of a plan in order, and which of them precede which: a place precedes only higher places.
+// The places of a plan in order, and which of them precede which: a place precedes only higher places. Two arrays of fixed
+// length with one count: callers without an allocator hold it by value, and the places alone are lent as a slice.
 #[derive(Clone, Copy)]
 pub struct Arrangement {
     count: usize,

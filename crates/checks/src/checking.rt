@@ -86,11 +86,13 @@ pub fn arrange<B: Book>(
 }
 
 // A plan has one arrangement: the same places in the same order, and the same precedence.
+#[tactic(auto, using(crate::proofs::Arrangements::one_arrangement))]
 pub fn a_plan_has_one_arrangement()
     ensures { OneArrangement }
 {}
 
 // A plan has one answer: no other one fits the definition.
+#[tactic(auto, using(crate::proofs::Answers::one_answer))]
 pub fn the_check_has_one_answer()
     ensures { OneAnswer }
 {}

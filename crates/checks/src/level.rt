@@ -102,7 +102,7 @@ impl Level {
         PlaceSet::from_fn(self.steps.len(), |j| self.comes_before(j, i))
     }
 
-    // The rows of all steps.
+    // The rows of all steps. An array of fixed length: callers have no allocator, and no Default is derived for a set.
     fn rows(&self) -> [PlaceSet; 256]
         ensures { (m : Model) → Told m self.now.steps.items → Rowed m (steps_of self.now.steps.items) result }
     {

@@ -41,56 +41,67 @@ pub fn recognition_goes_level_by_level()
 {}
 
 // Every authorized order of each level, done singly, leaves the final facts of the plan.
+#[tactic(auto, using(crate::proofs::Singles::singling))]
 pub fn authorized_orders_end_alike()
     ensures { Singling }
 {}
 
 // A level of distinct steps is authorized exactly where precedence inside it has no cycle.
+#[tactic(auto, using(crate::proofs::Cycles::acyclicity))]
 pub fn acyclic_levels_are_authorized()
     ensures { Acyclicity }
 {}
 
 // In an arranged plan the levels rise with the places, and a place precedes only higher places.
+#[tactic(auto, using(crate::proofs::Arranging::ascent))]
 pub fn places_precede_only_higher_ones()
     ensures { Ascent }
 {}
 
 // In an arranged plan the levels are the places by level.
+#[tactic(auto, using(crate::proofs::Arranging::laying))]
 pub fn levels_are_their_places()
     ensures { Laying }
 {}
 
 // A plan of authorized levels can be arranged.
+#[tactic(auto, using(crate::proofs::Arranging::arranging))]
 pub fn authorized_plans_can_be_arranged()
     ensures { Arranging }
 {}
 
 // A plan can be arranged exactly where its levels are authorized.
+#[tactic(auto, using(crate::proofs::Arranging::arrangeable))]
 pub fn only_authorized_plans_can_be_arranged()
     ensures { Arrangeable }
 {}
 
 // A plan is arranged in one way only.
+#[tactic(auto, using(crate::proofs::Arranging::likeness))]
 pub fn plans_are_arranged_in_one_way()
     ensures { Likeness }
 {}
 
 // Two different places of which neither precedes the other do not disturb each other.
+#[tactic(auto, using(crate::proofs::Runs::independence))]
 pub fn independent_places_do_not_disturb()
     ensures { Independence }
 {}
 
 // A place that is not done comes last among the places done, whatever its number.
+#[tactic(auto, using(crate::proofs::Runs::commuting))]
 pub fn an_undone_place_may_come_last()
     ensures { Commutation }
 {}
 
 // A place all of whose predecessors are done finds what its step needs.
+#[tactic(auto, using(crate::proofs::Runs::needing))]
 pub fn ready_places_find_their_needs()
     ensures { Needs }
 {}
 
 // Two places that are ready at once do not disturb each other.
+#[tactic(auto, using(crate::proofs::Runs::apart))]
 pub fn ready_places_do_not_disturb()
     ensures { Apart }
 {}
@@ -101,11 +112,13 @@ pub fn some_undone_place_is_ready()
 {}
 
 // A recognized plan meets each step's needs where its level starts.
+#[tactic(auto, using(crate::proofs::Layers::feeding))]
 pub fn recognized_levels_are_fed()
     ensures { Feeding }
 {}
 
 // All places, done singly in order, leave the final facts of the plan.
+#[tactic(auto, using(crate::proofs::Layers::ending))]
 pub fn all_places_end_as_recognized()
     ensures { Ending }
 {}
@@ -121,6 +134,7 @@ pub fn strata_are_recognized()
 {}
 
 // A plan has strata exactly where its levels are authorized.
+#[tactic(auto, using(crate::proofs::Stratifying::stratifying))]
 pub fn authorized_plans_have_strata()
     ensures { Stratifying }
 {}
@@ -136,11 +150,13 @@ pub fn recast_plans_are_accepted_and_at_rest()
 {}
 
 // What the theorems ask for can be met.
+#[tactic(auto, using(crate::proofs::Tiny::met))]
 pub fn premises_can_be_met()
     ensures { PremisesMet }
 {}
 
 // What the theorems ask for of orders, runs and strata can be met, and a level can have a cycle.
+#[tactic(auto, using(crate::proofs::Tiny::further_met))]
 pub fn further_premises_can_be_met()
     ensures { FurtherPremisesMet }
 {}
