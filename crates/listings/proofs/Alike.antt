@@ -7,11 +7,9 @@ use Rattle.plans.specs.Laws.{Alike}
 use Rattle.plans.proofs.Arranging.{likeness}
 use Rattle.task_sheets.specs.Content.{Task}
 use Rattle.timetables.specs.Scale.{Laws}
-use Rattle.timetables.specs.Measures.{step_scale, second_scale}
+use Rattle.timetables.specs.Measures.{StepCount, Seconds, step_scale, second_scale}
 use Rattle.timetables.specs.Timetable.{Timetable}
 use Rattle.timetables.proofs.Tables.{only_one}
-use Rattle.timetables.specs.declared.step_count.StepCount.{StepCount}
-use Rattle.timetables.specs.declared.seconds.Seconds.{Seconds}
 use Rattle.listings.specs.Lines.{head_line, place_line}
 use Rattle.listings.specs.Shown.{Shown, Shows, places_of, place_lines, shown_text}
 use Rattle.listings.proofs.Times.{renamed}

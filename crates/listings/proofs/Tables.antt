@@ -7,11 +7,9 @@ use Rattle.books.specs.Book.{Model}
 use Rattle.checks.specs.Rows.{marked}
 use Rattle.checks.specs.Tables.{blank}
 use Rattle.checks.specs.declared.arrangement.Arrangement.{Arrangement}
-use Rattle.timetables.specs.Measures.{step_scale, second_scale}
+use Rattle.timetables.specs.Measures.{StepCount, Seconds, step_scale, second_scale}
 use Rattle.timetables.specs.Timetable.{by_place, Timetable, Timetabled}
 use Rattle.timetables.specs.Strata.{Strata, stratum_in, ones, Stratified}
-use Rattle.timetables.specs.declared.step_count.StepCount.{StepCount}
-use Rattle.timetables.specs.declared.seconds.Seconds.{Seconds}
 use Rattle.listings.proofs.Times.{renamed}
 
 module _ (m : Model) (a : Arrangement) where

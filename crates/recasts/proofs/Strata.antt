@@ -23,7 +23,7 @@ use Rattle.checks.proofs.Passing.{ascending}
 use Rattle.cards.specs.Cards.{size_of, precedes_of}
 use Rattle.cards.specs.declared.card.Card.{Card}
 use Rattle.timetables.specs.Strata.{Strata, stratum_in}
-use Rattle.timetables.specs.declared.step_count.StepCount.{StepCount}
+use Rattle.timetables.specs.Measures.{StepCount}
 use Rattle.recasts.specs.Layers.{steps_at, step_in, strata_in, restaged}
 use Rattle.recasts.specs.Recasts.{Good, CardOf, SheetWritten, RecastWritten}
 use Rattle.recasts.proofs.Rows.{length_rows, get_d_rows, total_few}

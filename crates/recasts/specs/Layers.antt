@@ -6,7 +6,7 @@ use Rattle.cards.specs.Cards.{size_of, place_of}
 use Rattle.cards.specs.declared.card.Card.{Card}
 use Rattle.task_sheets.specs.Content.{Task}
 use Rattle.timetables.specs.Strata.{stratum_in}
-use Rattle.timetables.specs.declared.step_count.StepCount.{StepCount}
+use Rattle.timetables.specs.Measures.{StepCount}
 use Rattle.recasts.specs.declared.layers.Layers.{Layers}
 
 -- places by number, each with its step and its stratum

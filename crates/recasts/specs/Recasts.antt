@@ -18,7 +18,7 @@ use Rattle.cards.specs.declared.card.Card.{Card}
 use Rattle.cards.specs.declared.fault.RunFault.{RunFault}
 use Rattle.cards.specs.declared.fault.RunFault.TheVariants.{Plan, InHand, SpanTooSmall, NoPlace, WrongState, Unfinished, TooShort as Short}
 use Rattle.timetables.specs.Strata.{Strata, stratum_in}
-use Rattle.timetables.specs.declared.step_count.StepCount.{StepCount}
+use Rattle.timetables.specs.Measures.{StepCount}
 use Rattle.recasts.specs.Layers.{strata_in, restaged}
 
 -- t' is the recast of t: the same task with the strata of its plan for levels

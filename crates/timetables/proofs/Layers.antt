@@ -3,10 +3,9 @@ use Rattle.std.proofs.Common.{◌≡◌, ℕ, zero, suc, ◌+◌, ◌-◌, ◌<�
 use Rattle.std.proofs.lemmas.List.{get_or-replicate, length-replicate}
 use Rattle.std.proofs.lemmas.Bool.{cases_lt, leb-true}
 use Rattle.sheets.specs.declared.writing.TooShort.{TooShort}
-use Rattle.timetables.specs.Measures.{step_scale}
+use Rattle.timetables.specs.Measures.{StepCount, step_scale}
 use Rattle.timetables.specs.Timetable.{sum, by_place, Timetable, Timetabled}
 use Rattle.timetables.specs.Strata.{Strata, ones, Stratified}
-use Rattle.timetables.specs.declared.step_count.StepCount.{StepCount}
 
 module _ (size : ℕ) (precedes : ℕ → ℕ → Bool) (upward : (u v : ℕ) → precedes u v ≡ true → (u < v) × (v < size)) (small : size ≤ 256)
     (weight begin : ℕ → StepCount) (end : StepCount) (one : (v : ℕ) → v < size → (weight v).count ≡ 1) (t : Timetable step_scale size precedes weight begin end) where

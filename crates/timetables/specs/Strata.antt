@@ -1,9 +1,8 @@
 -- The strata of places, in plain numbers.
 use Rattle.std.specs.Prelude.{◌≡◌, ℕ, ◌+◌, ◌<◌, ◌≤◌, Bool, true, ◌⊎◌, List, length, replicate, Ok, Err, Result}
 use Rattle.sheets.specs.declared.writing.TooShort.{TooShort}
-use Rattle.timetables.specs.Measures.{step_scale}
+use Rattle.timetables.specs.Measures.{StepCount, step_scale}
 use Rattle.timetables.specs.Timetable.{by_place, Written}
-use Rattle.timetables.specs.declared.step_count.StepCount.{StepCount}
 
 -- the stratum of each place, and the number of strata
 pub record Strata (size : ℕ) (precedes : ℕ → ℕ → Bool) (stratum : ℕ → ℕ) (count : ℕ) : Type 0 where

@@ -4,7 +4,7 @@ ghost use Rattle.timetables.specs.Measures.{step_scale};
 ghost use Rattle.timetables.specs.Strata.{ones, Stratified};
 ghost use Rattle.timetables.specs.Timetable.{Timetabled};
 
-use crate::step_count::StepCount;
+use crate::count::StepCount;
 use crate::timetabling::timetable;
 use cards::Card;
 use sheets::TooShort;

@@ -86,8 +86,6 @@ pub fn timetable<M: Measure + Copy>(
 }
 
 // In every measure, places and their weights have one timetable.
-pub fn only_one_timetable<M: Measure>() -> u8
+pub fn only_one_timetable<M: Measure>()
     ensures { OnlyOne M.scale }
-{
-    0
-}
+{}

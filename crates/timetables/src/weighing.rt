@@ -4,7 +4,7 @@ ghost use Rattle.checks.specs.Tables.{blank};
 ghost use Rattle.timetables.specs.Measures.{second_scale};
 ghost use Rattle.timetables.specs.Timetable.{by_place};
 
-use crate::seconds::Seconds;
+use crate::count::Seconds;
 use books::Book;
 use checks::Arrangement;
 

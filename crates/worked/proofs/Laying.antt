@@ -5,9 +5,8 @@ use Rattle.books.specs.Book.{Model, Lawful}
 use Rattle.books.specs.Listed.{listed}
 use Rattle.task_sheets.specs.Content.{Task}
 use Rattle.checks.specs.declared.arrangement.Place.{Place}
-use Rattle.timetables.specs.Measures.{step_scale, second_scale}
+use Rattle.timetables.specs.Measures.{Seconds, step_scale, second_scale}
 use Rattle.timetables.specs.Strata.{ones}
-use Rattle.timetables.specs.declared.seconds.Seconds.{Seconds}
 use Rattle.worked.specs.Plans.{placed, preceding, steps, seconds, Laid, Timed}
 use Rattle.worked.proofs.Tests.{below, every, recognizes}
 use Rattle.worked.proofs.Sets.{alike}

@@ -3,12 +3,11 @@ use Rattle.std.proofs.Common.{◌≡◌, ℕ, Bool, true, not, ◌&&◌, ◌||�
 use Rattle.std.proofs.lemmas.Bool.{and_parts, or_cases, leb-true}
 use Rattle.std.proofs.lemmas.Bool.Decides.{Decides-or, Decides-not, nat_tests}
 use Rattle.timetables.specs.Scale.{Scale, Laws}
-use Rattle.timetables.specs.Measures.{step_scale, second_scale}
+use Rattle.timetables.specs.Measures.{StepCount, step_scale, second_scale}
 use Rattle.timetables.specs.Timetable.{Greatest, Written, sum, by_place}
 use Rattle.timetables.specs.Strata.{Strata, ones, stratum_in}
 use Rattle.timetables.proofs.Tables.{written_made}
 use Rattle.timetables.proofs.Layers.{stratified}
-use Rattle.timetables.specs.declared.step_count.StepCount.{StepCount}
 use Rattle.worked.specs.Plans.{preceding}
 use Rattle.worked.proofs.Tests.{below, every, exists, decides_below, decides_exists, decides_true}
 use Rattle.worked.proofs.Places.{upward_shown}

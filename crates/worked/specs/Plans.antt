@@ -11,13 +11,11 @@ use Rattle.checks.specs.declared.arrangement.Place.{Place}
 use Rattle.cards.specs.Moments.{Setting, Moment}
 use Rattle.cards.specs.declared.state.State.{State}
 use Rattle.cards.specs.declared.state.State.TheVariants.{Waiting}
-use Rattle.timetables.specs.Measures.{step_scale, second_scale}
+use Rattle.timetables.specs.Measures.{StepCount, Seconds, step_scale, second_scale}
 use Rattle.timetables.specs.Timetable.{Timetable, by_place}
 use Rattle.timetables.specs.Strata.{Strata, ones, stratum_in}
 use Rattle.recasts.specs.Layers.{restaged}
 use Rattle.recasts.specs.Recasts.{RecastOf}
-use Rattle.timetables.specs.declared.step_count.StepCount.{StepCount}
-use Rattle.timetables.specs.declared.seconds.Seconds.{Seconds}
 
 -- the final facts of the task's plan are these and no others
 abbrev pub EndsWith : Model → Task → List ℕ → Type 0
