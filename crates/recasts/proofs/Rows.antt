@@ -1,5 +1,5 @@
 -- The steps of places by stratum, gathered place by place.
-use Rattle.std.proofs.Common.{◌≡◌, ℕ, zero, suc, ◌+◌, ◌<◌, ◌≤◌, Bool, true, false, cond, ◌&&◌, ◌||◌, eqb, ltb, List, [], ◌∷◌, ◌++◌, length, get_or, sym, refl, ap, ◌∙◌, inl, inr, add-one, arith}
+use Rattle.std.proofs.Common.{◌≡◌, ℕ, zero, suc, ◌+◌, ◌<◌, ◌≤◌, Bool, true, false, cond, ◌&&◌, ◌||◌, eqb, ltb, List, [], ◌∷◌, ◌++◌, length, get_or, sym, refl, ap, ◌∙◌, inl, inr, add-one, arith, length-append}
 use Rattle.std.proofs.lemmas.List.{length_push, get_or_push, get_or_append_left}
 use Rattle.std.proofs.lemmas.Bool.{cases_eq, cases_lt, eq-eqb, ne_eqb, eqb-true, lt-ltb, or_left}
 use Rattle.std.proofs.lemmas.Bool.Decides.{nat_tests}
@@ -110,3 +110,20 @@ members_same P Q (suc n) h =
 
 pub row_said : (P Q : Facts) → ((a : ℕ) → P a ≡ (ltb a 512 && Q a)) → members P 512 ≡ members Q 512
 row_said P Q h = members_same P Q 512 (λ a l. let e = h a in let t : ltb a 512 ≡ true = lt-ltb a 512 l in grind (arith, nat_tests))
+
+-- one stratum more, with as many steps as its set has
+pub total_more : (step stratum : ℕ → ℕ) (n k : ℕ) (P : Facts) (all len : ℕ) → ((a : ℕ) → P a ≡ (ltb a 512 && steps_at step stratum k n a))
+    → len ≡ count P 512 → all ≡ total (rows_at step stratum n k) → all + len ≡ total (rows_at step stratum n (k + 1))
+total_more step stratum n k P all len h e i =
+    let m = e ∙ sym (length_members P 512) ∙ ap length (row_said P (steps_at step stratum k n) h) in
+    let t = ap total (rows_more step stratum n k) ∙ total_push (rows_at step stratum n k) (members (steps_at step stratum k n) 512) in
+    omega arith
+
+-- the list of a set below a bound is no longer than the bound
+one_few : (b : Bool) (n : ℕ) → length (cond b (n ∷ []) []) ≤ 1
+one_few true n = omega arith
+one_few false n = omega arith
+
+pub members_few : (P : Facts) (n : ℕ) → length (members P n) ≤ n
+members_few P zero = omega arith
+members_few P (suc n) = omega (arith, length-append (members P n) (cond (P n) (n ∷ []) []), one_few (P n) n, members_few P n)

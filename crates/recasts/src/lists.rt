@@ -1,14 +1,13 @@
 // The parts of a task sheet in front of its levels.
 ghost use Rattle.std.specs.Prelude.{◌≡◌, ◌+◌, ◌*◌, ◌<◌, ◌≤◌, length, MatchResult};
 ghost use Rattle.sheets.specs.Fields.{be16};
-ghost use Rattle.sheets.specs.Writing.{Wrote};
+ghost use Rattle.sheets.specs.Writers.{Room, Writes};
 ghost use Rattle.task_sheets.specs.Content.{list_bytes};
 ghost use Rattle.task_sheets.specs.Opened.{task_of};
 ghost use Rattle.task_sheets.specs.Parts.{list_of, part_numbers};
 ghost use Rattle.recasts.specs.Headers.{header_bytes, HeaderOf};
 
-use sheets::TooShort;
-use sheets::writing::{put, put_bytes};
+use sheets::{TooShort, Writer};
 use task_sheets::{Part, TaskSheet};
 
 // The header of a task sheet: how many facts, steps, levels and steps in all levels there are, and where the goal and
@@ -64,18 +63,18 @@ pub(crate) fn check_room(length: usize, needed: usize) -> Result<(), TooShort>
     Ok(())
 }
 
-// Writes the header at `at`, and answers the place behind it.
-pub(crate) fn put_header(out: &mut [u8], at: usize, header: Header) -> usize
-    requires { at + 20 ≤ length out.old }
-    ensures { Wrote out.old at (header_bytes header) out.new result }
+// Writes the header.
+pub(crate) fn put_header(out: &mut Writer<'_>, header: Header)
+    requires { Room out.old 20 }
+    ensures { Writes out.old (header_bytes header) out.new }
 {
-    let at = put(out, at, header.facts);
-    let at = put(out, at, header.steps);
-    let at = put(out, at, header.levels);
-    let at = put(out, at, header.total);
-    let at = put(out, at, 20u32);
-    let at = put(out, at, header.goal);
-    put(out, at, header.plan)
+    out.put(header.facts);
+    out.put(header.steps);
+    out.put(header.levels);
+    out.put(header.total);
+    out.put(20u32);
+    out.put(header.goal);
+    out.put(header.plan);
 }
 
 // A list of the task where it lies, its count included; the list of no numbers where there is no such part.
@@ -90,11 +89,11 @@ pub(crate) fn list_of<'a>(task: &TaskSheet<'a>, which: Part) -> &'a [u8]
     }
 }
 
-// Copies a list, its count included, to `at`, and answers the place behind it.
-pub(crate) fn put_list(out: &mut [u8], at: usize, list: &[u8]) -> usize
-    requires room { at + length list.now ≤ length out.old }
+// Copies a list, its count included.
+pub(crate) fn put_list(out: &mut Writer<'_>, list: &[u8])
+    requires room { Room out.old (length list.now) }
     requires whole { length list.now ≡ 2 + 2 * be16 list.now 0 }
-    ensures { Wrote out.old at (list_bytes (part_numbers list.now)) out.new result }
+    ensures { Writes out.old (list_bytes (part_numbers list.now)) out.new }
 {
-    put_bytes(out, at, list)
+    out.put_bytes(list);
 }

@@ -11,7 +11,7 @@ use crate::lists::{Header, check_room, list_of, put_header, put_list};
 use books::Book;
 use cards::{Card, RunFault};
 use checks::{Arrangement, arrange};
-use sheets::TooShort;
+use sheets::{TooShort, Writer};
 use task_sheets::{Part, TaskSheet};
 use timetables::{StepCount, strata};
 
@@ -24,10 +24,11 @@ fn write_layers(task: &TaskSheet, layers: &Layers, out: &mut [u8]) -> Result<usi
     let header = Header::of(task, layers.count, layers.total(), start.len(), goal.len());
     let needed = header.sheet_length();
     check_room(out.len(), needed)?;
-    let at = put_header(out, 0, header);
-    let at = put_list(out, at, start);
-    let at = put_list(out, at, goal);
-    layers.put(out, at);
+    let mut sheet = Writer::new(out);
+    put_header(&mut sheet, header);
+    put_list(&mut sheet, start);
+    put_list(&mut sheet, goal);
+    layers.put(&mut sheet);
     Ok(needed)
 }
 
@@ -54,15 +55,10 @@ pub fn recast<B: Book>(book: &B, task: &TaskSheet, out: &mut [u8]) -> Result<usi
 {
     let mut plan = Arrangement::new();
     let _ = arrange(book, task, &mut plan)?;
-    match write_strata(&Card::waiting(plan), task, out) {
-        Ok(length) => Ok(length),
-        Err(fault) => Err(RunFault::TooShort(fault)),
-    }
+    Ok(write_strata(&Card::waiting(plan), task, out)?)
 }
 
 // A recast has one answer: no other one fits the definition.
-pub fn no_recast_has_two_answers() -> u8
+pub fn no_recast_has_two_answers()
     ensures { OneRecastAnswer }
-{
-    0
-}
+{}

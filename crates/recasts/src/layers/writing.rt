@@ -1,14 +1,15 @@
 // The strata of a card as the levels of a task sheet.
-ghost use Rattle.std.specs.Prelude.{◌≡◌, ℕ, ◌+◌, ◌<◌, ◌≤◌, ◌&&◌, length, ◌==◌, nat_lt};
+ghost use Rattle.std.specs.Prelude.{◌≡◌, ℕ, ◌<◌, ◌≤◌, ◌&&◌, length, ◌==◌, nat_lt};
 ghost use Rattle.facts.specs.Sets.{holds};
 ghost use Rattle.cards.specs.Cards.{size_of};
-ghost use Rattle.sheets.specs.Writing.{Wrote};
+ghost use Rattle.sheets.specs.Writers.{Room, Writes};
 ghost use Rattle.task_sheets.specs.Content.{plan_bytes, total};
 ghost use Rattle.recasts.specs.Layers.{step_of, stratum_of, steps_of, levels_of};
 
 use super::Layers;
-use crate::sets::{put_set, size_of};
+use crate::sets::put_set;
 use facts::StepSet;
+use sheets::Writer;
 
 impl<'a> Layers<'a> {
     // The step of place `u`.
@@ -16,10 +17,7 @@ impl<'a> Layers<'a> {
         requires { u < size_of self.now.card.now }
         ensures { result ≡ step_of self.now u }
     {
-        match self.card.look(u) {
-            Ok((step, _, _)) => step,
-            Err(_) => unreachable(),
-        }
+        self.card.plan().places()[u].step
     }
 
     // Whether place `u` is of stratum `k`.
@@ -50,20 +48,18 @@ impl<'a> Layers<'a> {
     {
         let mut total = 0;
         for k in 0..self.count {
-            total += size_of(&self.steps(k));
+            total += self.steps(k).len();
         }
         total
     }
 
-    // Writes the strata as levels at `at`, and answers the place behind them.
-    pub(crate) fn put(&self, out: &mut [u8], at: usize) -> usize
-        requires { at + length (plan_bytes (levels_of self.now)) ≤ length out.old }
-        ensures { Wrote out.old at (plan_bytes (levels_of self.now)) out.new result }
+    // Writes the strata as levels.
+    pub(crate) fn put(&self, out: &mut Writer<'_>)
+        requires { Room out.old (length (plan_bytes (levels_of self.now))) }
+        ensures { Writes out.old (plan_bytes (levels_of self.now)) out.new }
     {
-        let mut place = at;
         for k in 0..self.count {
-            place = put_set(out, place, &self.steps(k));
+            put_set(out, &self.steps(k));
         }
-        place
     }
 }

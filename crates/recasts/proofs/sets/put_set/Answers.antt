@@ -1,9 +1,24 @@
-use Rattle.std.proofs.Common.{◌≤◌, length, ap, arith}
+use Rattle.std.proofs.Common.{◌*◌, length, sym, ap, ◌∙◌, arith}
+use Rattle.facts.specs.Sets.{holds}
+use Rattle.books.specs.Listed.{members}
+use Rattle.books.proofs.Members.{length_members}
 use Rattle.sheets.specs.Fields.{two}
-use Rattle.sheets.proofs.Buffers.{wrote_on, wrote_as}
+use Rattle.sheets.specs.Writers.{Room}
+use Rattle.sheets.proofs.Writers.{writes_on, writes_as, writes_room}
+use Rattle.recasts.proofs.Rows.{members_few}
 use Rattle.recasts.proofs.sets.put_set.Goals as goal
+
+pub overflow_cast-len : goal.overflow_cast-len
+overflow_cast-len c =
+    let P = holds c.args.set.now.words in
+    let n = c.len.ensures ∙ sym (length_members P 512) in
+    omega (arith, n, members_few P 512)
+
+pub put_numbers-requires : goal.put_numbers-requires
+put_numbers-requires c = (omega arith, writes_room (2 * length (members (holds c.args.set.now.words) 512)) c.requires c.put.ensures)
 
 pub returns : goal.returns
 returns c =
-    let h : c.args.at ≤ length c.args.out.now = omega arith in
-    wrote_on h (wrote_as (ap two c.size_of.ensures.is) c.put-at.ensures) c.put_steps.ensures
+    let P = holds c.args.set.now.words in
+    let h : Room c.args.out.now 0 = omega (arith, c.requires) in
+    writes_on h (writes_as (ap two (c.len.ensures ∙ sym (length_members P 512))) c.put.ensures) c.put_numbers.ensures
