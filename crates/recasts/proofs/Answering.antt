@@ -60,8 +60,7 @@ module _ (m : Model) (t : Task) (before : List ℕ) where
 
   both : (f : PlanFault) → Checked m t (Err f) → Checked m t (Ok tt) → ⊥
   both f v w =
-      let e = one_answer m t (Err f) (Ok tt) v w in
-      let z : ◌≡◌ {A = ℕ} 0 1 = cc in omega arith
+      let e = one_answer m t (Err f) (Ok tt) v w in cc
 
   one_standing : {after after' : List ℕ} (x : Standing after) (y : Standing after') → (says x ≡ says y) × (after ≡ after')
   one_standing (unsound f v e) (unsound g w d) =

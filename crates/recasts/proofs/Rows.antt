@@ -3,10 +3,12 @@ use Rattle.std.proofs.Common.{◌≡◌, ℕ, zero, suc, ◌+◌, ◌<◌, ◌�
 use Rattle.std.proofs.lemmas.List.{length_push, get_or_push, get_or_append_left}
 use Rattle.std.proofs.lemmas.Bool.{cases_eq, cases_lt, eq-eqb, ne_eqb, eqb-true, lt-ltb, or_left}
 use Rattle.std.proofs.lemmas.Bool.Decides.{nat_tests}
+use Rattle.facts.specs.Sets.{holds}
 use Rattle.books.specs.Book.{Facts, count}
 use Rattle.books.specs.Listed.{members}
 use Rattle.books.proofs.Counts.{count_or, count_none, count_listed}
 use Rattle.books.proofs.Members.{length_members}
+use Rattle.book_sheets.specs.Numbers.{numbers_in}
 use Rattle.task_sheets.specs.Content.{total}
 use Rattle.recasts.specs.Layers.{steps_at, rows_at}
 
@@ -108,8 +110,13 @@ members_same P Q (suc n) h =
     ap (λ xs. xs ++ cond (P n) (n ∷ []) []) (members_same P Q n (λ a l. h a (omega arith)))
     ∙ ap (λ b. members Q n ++ cond b (n ∷ []) []) (h n (omega arith))
 
-pub row_said : (P Q : Facts) → ((a : ℕ) → P a ≡ (ltb a 512 && Q a)) → members P 512 ≡ members Q 512
+row_said : (P Q : Facts) → ((a : ℕ) → P a ≡ (ltb a 512 && Q a)) → members P 512 ≡ members Q 512
 row_said P Q h = members_same P Q 512 (λ a l. let e = h a in let t : ltb a 512 ≡ true = lt-ltb a 512 l in grind (arith, nat_tests))
+
+-- the numbers of such a set are the list
+pub row_put : (words : List ℕ) (Q : Facts) → ((a : ℕ) → holds words a ≡ (ltb a 512 && Q a)) → numbers_in words 8 ≡ members Q 512
+unfolding numbers_in
+row_put words Q h = row_said (holds words) Q h
 
 -- one stratum more, with as many steps as its set has
 pub total_more : (step stratum : ℕ → ℕ) (n k : ℕ) (P : Facts) (all len : ℕ) → ((a : ℕ) → P a ≡ (ltb a 512 && steps_at step stratum k n a))

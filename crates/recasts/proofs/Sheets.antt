@@ -1,12 +1,8 @@
 -- The sheet of a task, written part by part.
-use Rattle.std.proofs.Common.{◌≡◌, ℕ, ◌+◌, ◌*◌, ◌<◌, List, ◌++◌, length, drop, Err, sym, refl, ap, ◌∙◌, subst, arith, length-append}
+use Rattle.std.proofs.Common.{◌≡◌, ℕ, ◌+◌, ◌*◌, ◌<◌, List, ◌++◌, length, Err, sym, refl, ap, ◌∙◌, arith, length-append}
 use Rattle.std.proofs.lemmas.List.{append_assoc}
 use Rattle.sheets.specs.declared.writing.TooShort.{TooShort}
-use Rattle.sheets.specs.declared.writer.Writer.{Writer}
 use Rattle.sheets.specs.Fields.{be16}
-use Rattle.sheets.specs.Writing.{Wrote}
-use Rattle.sheets.specs.Writers.{Writes}
-use Rattle.sheets.proofs.Buffers.{front_put}
 use Rattle.cards.specs.Cards.{size_of}
 use Rattle.task_sheets.specs.Layout.{start_at}
 use Rattle.task_sheets.specs.Content.{Task, list_bytes, plan_bytes, behind, total, encode}
@@ -86,8 +82,3 @@ module _ (t : Task) (l : Layers) (ss gs n : ℕ) (h : Header) (w : HeaderOf t l.
 -- a buffer that is too short is as it was
 pub short_written : (t : Task) (before : List ℕ) (e : TooShort) (n : ℕ) → n ≡ length (encode t) → (e.needed ≡ n) × (length before < n) → SheetWritten t before (Err e) before
 short_written t before e n k w = (w.0 ∙ k, omega (arith, w.0, w.1), refl)
-
--- what a writer has written from the front of a buffer
-pub front_written : {u v : Writer} {ys : List ℕ} (before : List ℕ) → u.out.now ≡ before → u.at ≡ 0 → Writes u ys v → v.out.now ≡ ys ++ drop (length ys) before
-front_written {u} {v} {ys} before e f p =
-    front_put (subst (λ (bs : List ℕ). Wrote bs 0 ys v.out.now v.at) e (subst (λ (n : ℕ). Wrote u.out.now n ys v.out.now v.at) f p.wrote))

@@ -1,7 +1,7 @@
-use Rattle.std.proofs.Common.{◌+◌, ◌≤◌, ◌++◌, length, drop, sym, refl, ap, ◌∙◌, arith, length-append}
+use Rattle.std.proofs.Common.{◌+◌, ◌++◌, length, drop, sym, refl, ap, ◌∙◌, rules, arith, length-append}
 use Rattle.std.proofs.lemmas.Result.{err_from_is_err_and}
 use Rattle.sheets.specs.Writers.{Room}
-use Rattle.sheets.proofs.Writers.{writes_on, writes_as, writes_room}
+use Rattle.sheets.proofs.Writers.{writes_on, writes_as, writes_room, writes_front}
 use Rattle.task_sheets.specs.Content.{list_bytes, plan_bytes, encode}
 use Rattle.task_sheets.specs.Opened.{task_of}
 use Rattle.task_sheets.specs.Parts.{part_numbers}
@@ -9,7 +9,7 @@ use Rattle.task_sheets.proofs.Decodes.{length_list_bytes}
 use Rattle.recasts.specs.Headers.{header_bytes}
 use Rattle.recasts.specs.Layers.{layered, levels_of}
 use Rattle.recasts.proofs.Plans.{length_plan}
-use Rattle.recasts.proofs.Sheets.{list_length, levels_length, length_layered, layered_parts, short_written, front_written}
+use Rattle.recasts.proofs.Sheets.{list_length, levels_length, length_layered, layered_parts, short_written}
 use Rattle.recasts.proofs.recasting.write_layers.Goals as goal
 
 pub returns-in_err-check_room : goal.returns-in_err-check_room
@@ -69,4 +69,4 @@ returns c =
     let start = writes_as (ap list_bytes c.list_of-start.ensures.says) c.put_list.ensures in
     let goal = writes_as (ap list_bytes c.list_of-goal.ensures.says) c.put_list-2.ensures in
     let whole = writes_as parts (writes_on h (writes_on h (writes_on h c.put_header.ensures start) goal) c.put.ensures) in
-    (n, c.in_ok-check_room.ensures, c.drop-sheet.ensures ∙ front_written c.args.out.now c.new-sheet.ensures.bytes front whole ∙ ap (λ k. encode (layered t l) ++ drop k c.args.out.now) (sym n))
+    (n, c.in_ok-check_room.ensures, writes_front (search rules) front c.new-sheet.ensures.bytes whole ∙ ap (λ k. encode (layered t l) ++ drop k c.args.out.now) (sym n))

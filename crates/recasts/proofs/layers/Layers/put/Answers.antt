@@ -1,12 +1,12 @@
 use Rattle.std.proofs.Common.{◌+◌, ◌*◌, length, sym, ap, ◌∙◌, arith}
-use Rattle.facts.specs.Sets.{holds}
 use Rattle.cards.specs.Cards.{size_of}
 use Rattle.books.specs.Listed.{members}
+use Rattle.book_sheets.specs.Numbers.{numbers_in}
 use Rattle.sheets.specs.Writers.{Room}
 use Rattle.sheets.proofs.Writers.{writes_on, writes_as, writes_room}
 use Rattle.task_sheets.specs.Content.{list_bytes, plan_bytes}
 use Rattle.recasts.specs.Layers.{step_of, stratum_of, steps_of, levels_below}
-use Rattle.recasts.proofs.Rows.{rows_more, row_said}
+use Rattle.recasts.proofs.Rows.{rows_more, row_put}
 use Rattle.recasts.proofs.Plans.{plan_push, length_more, length_up}
 use Rattle.recasts.proofs.layers.Layers.put.Goals as goal
 
@@ -14,17 +14,17 @@ pub put_set-requires : goal.put_set-requires
 put_set-requires c =
     let l = c.args.self.now in
     let k = c.loop-k.k in
-    let n = ap length (row_said (holds c.steps.result.words) (steps_of l k) c.steps.ensures) in
+    let n = ap length (row_put c.steps.result.words (steps_of l k) c.steps.ensures) in
     let more = length_more (step_of l) (stratum_of l) (size_of l.card.now) k in
     let up = length_up (step_of l) (stratum_of l) (size_of l.card.now) (k + 1) l.count (omega arith) in
-    let room : Room c.args.out.now (length (plan_bytes (levels_below l k)) + (2 + 2 * length (members (holds c.steps.result.words) 512))) = omega arith in
-    writes_room (2 + 2 * length (members (holds c.steps.result.words) 512)) room c.loop-k.invariant
+    let room : Room c.args.out.now (length (plan_bytes (levels_below l k)) + (2 + 2 * length (numbers_in c.steps.result.words 8))) = omega arith in
+    writes_room (2 + 2 * length (numbers_in c.steps.result.words 8)) room c.loop-k.invariant
 
 pub loop-k-preserved : goal.loop-k-preserved
 loop-k-preserved c =
     let l = c.args.self.now in
     let k = c.loop-k.k in
     let h : Room c.args.out.now 0 = omega arith in
-    let e = ap list_bytes (row_said (holds c.steps.result.words) (steps_of l k) c.steps.ensures) in
+    let e = ap list_bytes (row_put c.steps.result.words (steps_of l k) c.steps.ensures) in
     let m = ap plan_bytes (rows_more (step_of l) (stratum_of l) (size_of l.card.now) k) ∙ plan_push (levels_below l k) (members (steps_of l k) 512) in
     writes_as (sym m) (writes_on h c.loop-k.invariant (writes_as e c.put_set.ensures))
