@@ -9,9 +9,6 @@ use Rattle.sheets.proofs.Verdicts.{Passes, then_left, then_right, must_true, up_
 use Rattle.sheets.proofs.Entries.{entry_room, entries_room, entries_rise}
 use Rattle.book_sheets.specs.Layout.{header, row, row_at, rows, deleted, lists, need_count, add_count, delete_count, lists_at, step_lists, book_verdict}
 
-pub rise : (xs : List ℕ) (f at n : ℕ) → Passes (entries xs f at n) → Rising xs at n
-rise xs f at n h = entries_rise xs f at n (λ j l. up_to_each (entry xs f at) n j l h)
-
 -- a list of deletes that passes is a list that passes
 pub deleted_entry : (xs : List ℕ) (f adds m at n : ℕ) → Passes (up_to (deleted xs f adds m at) n) → (j : ℕ) → j < n → Passes (entry xs f at j)
 deleted_entry xs f adds m at n h j l = then_left (entry xs f at j) _ (up_to_each (deleted xs f adds m at) n j l h)

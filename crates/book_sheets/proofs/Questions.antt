@@ -3,15 +3,15 @@ use Rattle.std.proofs.Common.{◌≡◌, ℕ, zero, suc, ◌+◌, ◌*◌, ◌<�
 use Rattle.std.proofs.lemmas.List.{get_or_past}
 use Rattle.books.specs.Listed.{listed}
 use Rattle.sheets.specs.Fields.{be16, be32}
-use Rattle.sheets.specs.Lists.{numbers_at, Rising}
-use Rattle.sheets.specs.Numbers.{numbers_of}
-use Rattle.sheets.proofs.Verdicts.{Passes}
-use Rattle.sheets.proofs.Entries.{entries_rise}
+use Rattle.sheets.specs.Lists.{entry, numbers_at}
+use Rattle.sheets.specs.Numbers.{numbers_of, Ascends}
+use Rattle.sheets.proofs.Verdicts.{Passes, up_to_each}
+use Rattle.sheets.proofs.Entries.{entries_rise, numbers_ascend}
 use Rattle.book_sheets.specs.declared.step_lists.StepLists.{StepLists}
 use Rattle.book_sheets.specs.Layout.{row_at, lists_at, book_verdict}
 use Rattle.book_sheets.specs.Content.{Step, empty_step, step_of, steps_from, content, model_of}
 use Rattle.book_sheets.specs.Reading.{Row, NoRow, Lists, NoLists}
-use Rattle.book_sheets.proofs.Known.{Passed, known, deleted_entry, rise}
+use Rattle.book_sheets.proofs.Known.{Passed, known, deleted_entry}
 use Rattle.book_sheets.proofs.Lawful.{length_steps_from}
 use Rattle.book_sheets.proofs.Ascents.{has_listed}
 
@@ -47,9 +47,9 @@ no_lists xs a l =
 
 -- the lists of a row with n needs, m adds and k deletes, that begin at a byte: they stand in the sheet, and ascend
 pub record Found (xs : List ℕ) (at n m k : ℕ) : Type 0 where
-  pub needs : Rising xs at n
-  pub adds : Rising xs (at + 2 * n) m
-  pub deletes : Rising xs (at + 2 * n + 2 * m) k
+  pub needs : Ascends (numbers_at xs at n)
+  pub adds : Ascends (numbers_at xs (at + 2 * n) m)
+  pub deletes : Ascends (numbers_at xs (at + 2 * n + 2 * m) k)
   pub needs_end : at + 2 * n ≤ length xs
   pub adds_end : at + 2 * n + 2 * m ≤ length xs
   pub deletes_end : at + 2 * n + 2 * m + 2 * k ≤ length xs
@@ -63,10 +63,13 @@ module _ (xs : List ℕ) (ok : Passes (book_verdict xs)) (a row at n m k : ℕ) 
   passed = rw (begins, en, em, ek, h.place) (known xs ok a h.there).lists
 
   pub lists_found : Found xs at n m k
-  lists_found = record {
-    needs = rise xs (be16 xs 0) at n passed.needs_ok;
-    adds = rise xs (be16 xs 0) (at + 2 * n) m passed.adds_ok;
-    deletes = entries_rise xs (be16 xs 0) (at + 2 * n + 2 * m) k (deleted_entry xs (be16 xs 0) (at + 2 * n) m (at + 2 * n + 2 * m) k passed.deletes_ok);
+  lists_found =
+    let f = be16 xs 0 in
+    let ascend : (b i : ℕ) → ((j : ℕ) → j < i → Passes (entry xs f b j)) → Ascends (numbers_at xs b i) = λ b i each. numbers_ascend xs b i (entries_rise xs f b i each) in
+    record {
+    needs = ascend at n (λ j l. up_to_each (entry xs f at) n j l passed.needs_ok);
+    adds = ascend (at + 2 * n) m (λ j l. up_to_each (entry xs f (at + 2 * n)) m j l passed.adds_ok);
+    deletes = ascend (at + 2 * n + 2 * m) k (deleted_entry xs f (at + 2 * n) m (at + 2 * n + 2 * m) k passed.deletes_ok);
     needs_end = passed.needs_end;
     adds_end = passed.adds_end;
     deletes_end = passed.deletes_end;

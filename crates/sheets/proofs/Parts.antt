@@ -1,11 +1,10 @@
 -- The numbers in a part of a sheet.
-use Rattle.std.proofs.Common.{◌≡◌, ℕ, zero, suc, ◌+◌, ◌*◌, ◌/◌, ◌<◌, ◌≤◌, List, ◌∷◌, length, get_or, sym, refl, ap, ◌∙◌, subst, arith}
+use Rattle.std.proofs.Common.{◌≡◌, ℕ, zero, suc, ◌+◌, ◌*◌, ◌/◌, ◌<◌, ◌≤◌, List, ◌∷◌, length, get_or, refl, ap, ◌∙◌, arith}
 use Rattle.std.specs.List.{between}
 use Rattle.std.proofs.lemmas.List.Edits.{length-between, get_or-between}
 use Rattle.sheets.specs.Fields.{be16}
-use Rattle.sheets.specs.Lists.{numbers_at, Rising}
-use Rattle.sheets.specs.Numbers.{numbers_in, Ascends}
-use Rattle.sheets.proofs.Entries.{numbers_ascend}
+use Rattle.sheets.specs.Lists.{numbers_at}
+use Rattle.sheets.specs.Numbers.{numbers_in}
 
 module _ (xs : List ℕ) (i j : ℕ) where
   pub be16_between : (k : ℕ) → i + k + 2 ≤ j → be16 (between i j xs) k ≡ be16 xs (i + k)
@@ -28,7 +27,3 @@ numbers_part xs i n j e l =
     let k : length (between i j xs) / 2 ≡ n = omega (arith, length-between xs i j l) in
     let z : i + 0 ≡ i = omega arith in
     ap (numbers_at (between i j xs) 0) k ∙ numbers_between xs i j 0 n (omega arith) ∙ ap (λ v. numbers_at xs v n) z
-
--- numbers that rise where they lie ascend in their part too
-pub part_ascends : (xs : List ℕ) (at n : ℕ) (ps : List ℕ) → at + 2 * n ≤ length xs → Rising xs at n → ps ≡ numbers_in (between at (at + 2 * n) xs) → Ascends ps
-part_ascends xs at n ps room up held = subst Ascends (sym (held ∙ numbers_part xs at n (at + 2 * n) refl room)) (numbers_ascend xs at n up)

@@ -1,4 +1,5 @@
-ghost use Rattle.std.specs.Prelude.{◌≡◌, length, map};
+ghost use Rattle.std.specs.Prelude.{◌≡◌, ◌+◌, ◌*◌, ◌≤◌, length, map};
+ghost use Rattle.sheets.specs.Lists.{numbers_at};
 ghost use Rattle.sheets.specs.Numbers.{number_in, numbers_in, numbers_of, Picked};
 
 // Numbers of a list, read where they lie: two bytes to each, the highest first.
@@ -20,6 +21,14 @@ impl<'a> Numbers<'a> {
         ensures { numbers_of result ≡ numbers_in bytes.now }
     {
         Numbers { bytes }
+    }
+
+    // The `n` numbers of the list at `at`.
+    pub(crate) fn of_list(bytes: &'a [u8], at: usize, n: usize) -> Numbers<'a>
+        requires { at + 2 * n ≤ length bytes.now }
+        ensures { numbers_of result ≡ numbers_at bytes.now at n }
+    {
+        Numbers::new(&bytes[at..at + 2 * n])
     }
 
     // The bytes two by two.

@@ -1,6 +1,6 @@
-ghost use Rattle.std.specs.Prelude.{◌≡◌, ◌+◌, ◌*◌, ◌≤◌, length};
-ghost use Rattle.sheets.specs.Lists.{numbers_at, Rising};
-ghost use Rattle.sheets.specs.Numbers.{numbers_of, Ascends, has_number};
+ghost use Rattle.std.specs.Prelude.{◌≡◌, ◌+◌, ◌*◌, ◌≤◌, length, map};
+ghost use Rattle.sheets.specs.Lists.{numbers_at};
+ghost use Rattle.sheets.specs.Numbers.{number_in, numbers_of, Ascends, has_number};
 
 use crate::numbers::{Numbers, number};
 
@@ -15,18 +15,26 @@ impl<'a> SortedNumbers<'a> {
     // The `n` numbers of the list at `at`, which ascend.
     pub fn new(bytes: &'a [u8], at: usize, n: usize) -> SortedNumbers<'a>
         requires n_in_bounds { at + 2 * n ≤ length bytes.now }
-        requires rising { Rising bytes.now at n }
+        requires ascend { Ascends (numbers_at bytes.now at n) }
         ensures { numbers_of result.numbers ≡ numbers_at bytes.now at n }
     {
-        let numbers = Numbers::new(&bytes[at..at + 2 * n]);
-        SortedNumbers { numbers }
+        SortedNumbers {
+            numbers: Numbers::of_list(bytes, at, n),
+        }
     }
 
     // Whether `p` is among them.
     pub fn has(&self, p: usize) -> bool
         ensures { result ≡ has_number (numbers_of self.now.numbers) p }
     {
-        let pairs = self.numbers.pairs();
-        pairs.binary_search_by_key(&p, number).is_ok()
+        is_among(self.numbers.pairs(), p)
     }
+}
+
+// Whether `p` is among the numbers that these pairs of bytes say, which ascend.
+fn is_among(pairs: &[[u8; 2]], p: usize) -> bool
+    requires { Ascends (map number_in pairs.now) }
+    ensures { result ≡ has_number (map number_in pairs.now) p }
+{
+    pairs.binary_search_by_key(&p, number).is_ok()
 }

@@ -1,7 +1,7 @@
 use Rattle.std.proofs.Common.{is_ok, ap, arith}
 use Rattle.std.proofs.lemmas.Result.{err_from_is_err_and}
 use Rattle.sheets.specs.Lists.{entry}
-use Rattle.sheets.proofs.Entries.{entries_rise}
+use Rattle.sheets.proofs.Entries.{entries_rise, numbers_ascend}
 use Rattle.sheets.proofs.Verdicts.{up_to_each, up_to_more, up_to_stops}
 use Rattle.sheets.proofs.lists.check_list.Goals as goal
 
@@ -16,7 +16,7 @@ loop-j-preserved c =
     (up_to_more (entry c.args.bytes.now c.args.bound c.args.at) c.loop-j.j c.loop-j.invariant.0 h.0, omega arith)
 
 -- the entries have been found right
-pub new-requires-clause-rising : goal.new-requires-clause-rising
-new-requires-clause-rising c =
-    entries_rise c.args.bytes.now c.args.bound c.args.at c.args.n
-    (λ j l. up_to_each (entry c.args.bytes.now c.args.bound c.args.at) c.loop-j.j j (omega arith) (ap is_ok c.loop-j.invariant.0))
+pub new-requires-clause-ascend : goal.new-requires-clause-ascend
+new-requires-clause-ascend c =
+    numbers_ascend c.args.bytes.now c.args.at c.args.n (entries_rise c.args.bytes.now c.args.bound c.args.at c.args.n
+    (λ j l. up_to_each (entry c.args.bytes.now c.args.bound c.args.at) c.loop-j.j j (omega arith) (ap is_ok c.loop-j.invariant.0)))
