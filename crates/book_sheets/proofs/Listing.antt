@@ -8,8 +8,6 @@ use Rattle.books.proofs.Counts.{count_hit}
 use Rattle.books.proofs.Members.{length_members, members_hit, members_miss, count_up, listed_members}
 use Rattle.sheets.specs.Fields.{two, twos}
 use Rattle.sheets.specs.Lists.{Ascending}
-use Rattle.sheets.specs.Writing.{Wrote}
-use Rattle.sheets.proofs.Buffers.{wrote_on, wrote_as}
 use Rattle.sheets.proofs.Stands.{length_twos}
 use Rattle.book_sheets.proofs.Ascents.{says_listed}
 
@@ -62,11 +60,3 @@ member_room P f p l e =
     let d = count_hit P p e in
     let u = count_up P (p + 1) f (omega arith) in
     omega arith
-
-pub member_put : {xs ws vs : List ℕ} {at n k : ℕ} (P : Facts) (p : ℕ) → at ≤ length xs → P p ≡ true
-    → Wrote xs at (twos (members P p)) ws n → Wrote ws n (two p) vs k → Wrote xs at (twos (members P (p + 1))) vs k
-member_put P p h e w v = wrote_as (sym (ap twos (members_hit P p e) ∙ twos_push (members P p) p)) (wrote_on h w v)
-
-pub member_passed : {xs ws : List ℕ} {at n : ℕ} (P : Facts) (p : ℕ) → P p ≡ false
-    → Wrote xs at (twos (members P p)) ws n → Wrote xs at (twos (members P (p + 1))) ws n
-member_passed P p e w = wrote_as (sym (ap twos (members_miss P p e))) w

@@ -24,12 +24,3 @@ puts_text_on p q = record { puts = puts_on p.long p.puts q.puts; long = q.long �
 -- the same bytes under another name
 pub puts_text_as : {u v : Writer} {ys zs : List ℕ} → ys ≡ zs → PutsText u ys v → PutsText u zs v
 puts_text_as {u} {v} {ys} {zs} e p = subst (λ r. PutsText u r v) e p
-
--- nothing put
-pub puts_text_none : (w : Writer) → PutsText w [] w
-puts_text_none w =
-    record {
-      puts = record { place = omega arith; bytes = λ h. sym (written_none w.out.now w.at) };
-      long = refl;
-      lent = refl;
-    }

@@ -1,14 +1,7 @@
 -- Bytes written one after the other into a buffer.
-use Rattle.std.proofs.Common.{◌≡◌, ℕ, ◌+◌, ◌-◌, ◌<◌, ◌≤◌, List, [], ◌++◌, length, get_or, take, drop, sym, ap, ◌∙◌, subst, append_assoc, zero-add, arith, length-append}
-use borrow.Rule.Slice.PartMut.{put_mid}
+use Rattle.std.proofs.Common.{◌≡◌, ℕ, ◌+◌, ◌-◌, ◌<◌, ◌≤◌, List, [], ◌++◌, length, get_or, take, drop, sym, ap, ◌∙◌, append_assoc, arith, length-append}
 use Rattle.std.proofs.lemmas.List.{take-append-drop, take_at, drop-drop, drop_at, length-take-le, length-drop, get_or-take, get_or_append_left, get_or-append-add, get_or-drop}
 use Rattle.sheets.specs.Writing.{written, Wrote}
-
--- a copy into the part from a place to the next
-pub part_written : (xs : List ℕ) (at : ℕ) (ys : List ℕ) → put_mid at (at + length ys - at) xs ys ≡ written xs at ys
-part_written xs at ys =
-    let e : at + (at + length ys - at) ≡ at + length ys = omega arith in
-    ap (λ r. take at xs ++ (ys ++ r)) (drop-drop (at + length ys - at) at xs ∙ ap (λ n. drop n xs) e)
 
 -- nothing written
 pub written_none : (xs : List ℕ) (at : ℕ) → written xs at [] ≡ xs
@@ -56,10 +49,6 @@ wrote_on {xs} {ys} {ws} {zs} {vs} {at} {n} {k} h p q =
       place = let l = length-append ys zs in let a = p.place in let b = q.place in omega arith;
     }
 
--- what is written keeps the buffer's length
-pub wrote_length : {xs ys ws : List ℕ} {at n : ℕ} → at + length ys ≤ length xs → Wrote xs at ys ws n → length ws ≡ length xs
-wrote_length {xs} {ys} {ws} {at} {n} h p = ap length p.bytes ∙ length_written xs at ys h
-
 -- the bytes written stand at their place; bytes before it and behind them are untouched
 pub written_here : (xs : List ℕ) (at : ℕ) (ys : List ℕ) (i : ℕ) → at ≤ length xs → i < length ys → get_or (written xs at ys) (at + i) 0 ≡ get_or ys i 0
 written_here xs at ys i h l =
@@ -81,14 +70,3 @@ written_behind xs at ys i h l =
     ∙ ap (λ r. get_or r (i - (at + length ys)) 0) (written_back xs at ys h)
     ∙ get_or-drop (at + length ys) xs (i - (at + length ys)) 0
     ∙ ap (λ n. get_or xs n 0) e
-
--- the same bytes under another name
-pub wrote_as : {xs ys zs ws : List ℕ} {at n : ℕ} → ys ≡ zs → Wrote xs at ys ws n → Wrote xs at zs ws n
-wrote_as {xs} {ys} {zs} {ws} {at} {n} e p = subst (λ r. Wrote xs at r ws n) e p
-
-pub wrote_to : {xs ys ws vs : List ℕ} {at n k : ℕ} → vs ≡ ws → k ≡ n → Wrote xs at ys ws n → Wrote xs at ys vs k
-wrote_to e f p = record { bytes = e ∙ p.bytes; place = f ∙ p.place }
-
--- bytes written at the front are followed by what stood behind them
-pub front_put : {xs ys ws : List ℕ} {n : ℕ} → Wrote xs 0 ys ws n → ws ≡ ys ++ drop (length ys) xs
-front_put {xs} {ys} w = w.bytes ∙ ap (λ k. ys ++ drop k xs) (zero-add (length ys))

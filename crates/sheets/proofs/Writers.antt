@@ -1,5 +1,5 @@
 -- Bytes written by a writer, one behind the other.
-use Rattle.std.proofs.Common.{◌≡◌, ℕ, ◌+◌, List, [], ◌++◌, length, refl, ap, ◌∙◌, subst, drop, zero-add, arith, length-append}
+use Rattle.std.proofs.Common.{◌≡◌, ℕ, List, [], ◌++◌, length, refl, ap, ◌∙◌, subst, drop, zero-add, arith, length-append}
 use Rattle.sheets.specs.declared.writer.Writer.{Writer}
 use Rattle.sheets.specs.Writing.{written}
 use Rattle.sheets.specs.Writers.{Room, Writes}
@@ -26,13 +26,6 @@ writes_on {u} {v} {w} {ys} {zs} p q =
 -- the same bytes under another name
 pub writes_as : {u v : Writer} {ys zs : List ℕ} → ys ≡ zs → Writes u ys v → Writes u zs v
 writes_as {u} {v} {ys} {zs} e p = subst (λ r. Writes u r v) e p
-
--- there is as much room behind what is written as there was, without the bytes written
-pub writes_room : {u v : Writer} {ys : List ℕ} (n : ℕ) → Room u (length ys + n) → Writes u ys v → Room v n
-writes_room {u} {v} {ys} n h p =
-    let k = p.wrote.place in
-    let l = p.long in
-    omega (arith, h)
 
 -- what is written from the front on is followed by what stood behind it; zs is the buffer that the writer gives back
 pub writes_front : {u w : Writer} {ys xs zs : List ℕ} → zs ≡ w.out.now → u.at ≡ 0 → u.out.now ≡ xs → Writes u ys w → zs ≡ ys ++ drop (length ys) xs

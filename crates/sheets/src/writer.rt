@@ -3,7 +3,6 @@ ghost use Rattle.std.specs.Prelude.{◌≡◌, ◌+◌, ◌^◌, ◌<◌, length
 ghost use Rattle.sheets.specs.Writers.{Room, Writes, Skips};
 
 use crate::field::Field;
-use crate::writing::put_bytes;
 use std::convert::AsSlice;
 
 // A lent buffer, and the place up to which it is written.
@@ -59,7 +58,9 @@ impl<'a> Writer<'a> {
         requires { Room self.old (length bytes.now) }
         ensures { Writes self.old bytes.now self.new }
     {
-        self.at = put_bytes(self.out, self.at, bytes);
+        let next = self.at + bytes.len();
+        self.out[self.at..next].copy_from_slice(bytes);
+        self.at = next;
     }
 
     // Writes a number behind what is written, where the buffer has room for it.

@@ -29,16 +29,13 @@ put_list-requires-2-clause-room c =
     let bytes = ap length c.new-sheet.ensures.bytes in
     let front = c.new-sheet.ensures.front in
     let fits = c.in_ok-check_room.ensures in
-    let both = length-append (header_bytes c.of-header.result) (list_bytes (part_numbers c.list_of-start.result.now)) in
-    let h : Room c.new-sheet.result 0 = omega arith in
-    let room : Room c.new-sheet.result (length (header_bytes c.of-header.result ++ list_bytes (part_numbers c.list_of-start.result.now)) + length c.list_of-goal.result.now) = omega arith in
-    writes_room (length c.list_of-goal.result.now) room (writes_on h c.put_header.ensures c.put_list.ensures)
+    let header = c.put_header.ensures in
+    let start = c.put_list.ensures in
+    omega (arith, header.wrote.place, header.long, start.wrote.place, start.long)
 
 pub put-requires : goal.put-requires
 put-requires c =
     let l = c.args.layers.now in
-    let start = list_bytes (part_numbers c.list_of-start.result.now) in
-    let goal = list_bytes (part_numbers c.list_of-goal.result.now) in
     let n = list_length c.list_of-start.result.now (part_numbers c.list_of-start.result.now) c.list_of-start.ensures.whole refl in
     let m = list_length c.list_of-goal.result.now (part_numbers c.list_of-goal.result.now) c.list_of-goal.ensures.whole refl in
     let k = length_list_bytes (part_numbers c.list_of-start.result.now) in
@@ -49,11 +46,10 @@ put-requires c =
     let bytes = ap length c.new-sheet.ensures.bytes in
     let front = c.new-sheet.ensures.front in
     let fits = c.in_ok-check_room.ensures in
-    let two = length-append (header_bytes c.of-header.result) start in
-    let three = length-append (header_bytes c.of-header.result ++ start) goal in
-    let h : Room c.new-sheet.result 0 = omega arith in
-    let room : Room c.new-sheet.result (length ((header_bytes c.of-header.result ++ start) ++ goal) + length (plan_bytes (levels_of l))) = omega arith in
-    writes_room (length (plan_bytes (levels_of l))) room (writes_on h (writes_on h c.put_header.ensures c.put_list.ensures) c.put_list-2.ensures)
+    let header = c.put_header.ensures in
+    let start = c.put_list.ensures in
+    let goal = c.put_list-2.ensures in
+    omega (arith, header.wrote.place, header.long, start.wrote.place, start.long, goal.wrote.place, goal.long)
 
 pub returns : goal.returns
 returns c =
@@ -63,10 +59,8 @@ returns c =
     let g = list_length c.list_of-goal.result.now t.goal c.list_of-goal.ensures.whole c.list_of-goal.ensures.says in
     let n = c.sheet_length-needed.ensures ∙ length_layered t l _ _ c.total.result c.of-header.result c.of-header.ensures s g c.total.ensures.is in
     let parts = layered_parts t l _ _ c.total.result c.of-header.result c.of-header.ensures s g c.total.ensures.is in
-    let bytes = ap length c.new-sheet.ensures.bytes in
     let front = c.new-sheet.ensures.front in
-    let h : Room c.new-sheet.result 0 = omega arith in
     let start = writes_as (ap list_bytes c.list_of-start.ensures.says) c.put_list.ensures in
     let goal = writes_as (ap list_bytes c.list_of-goal.ensures.says) c.put_list-2.ensures in
-    let whole = writes_as parts (writes_on h (writes_on h (writes_on h c.put_header.ensures start) goal) c.put.ensures) in
+    let whole = writes_as parts (writes_on (writes_on (writes_on c.put_header.ensures start) goal) c.put.ensures) in
     (n, c.in_ok-check_room.ensures, writes_front (search rules) front c.new-sheet.ensures.bytes whole ∙ ap (λ k. encode (layered t l) ++ drop k c.args.out.now) (sym n))

@@ -3,7 +3,7 @@ use Rattle.facts.specs.Sets.{holds}
 use Rattle.books.proofs.Members.{length_members}
 use Rattle.sheets.specs.Fields.{two}
 use Rattle.sheets.specs.Writers.{Room}
-use Rattle.sheets.proofs.Writers.{writes_on, writes_as, writes_room}
+use Rattle.sheets.proofs.Writers.{writes_on, writes_as}
 use Rattle.book_sheets.specs.Numbers.{numbers_in}
 use Rattle.book_sheets.proofs.NumberLists.{length_numbers}
 use Rattle.recasts.proofs.Rows.{members_few}
@@ -15,10 +15,6 @@ overflow_cast-len c =
     let n = c.len.ensures ∙ sym (length_members P 512) in
     omega (arith, n, members_few P 512)
 
-pub put_numbers-requires : goal.put_numbers-requires
-put_numbers-requires c = (omega arith, writes_room (2 * length (numbers_in c.args.set.now.words 8)) c.requires c.put.ensures)
-
 pub returns : goal.returns
 returns c =
-    let h : Room c.args.out.now 0 = omega arith in
-    writes_on h (writes_as (ap two (c.len.ensures ∙ sym (length_numbers c.args.set.now.words 8))) c.put.ensures) c.put_numbers.ensures
+    writes_on (writes_as (ap two (c.len.ensures ∙ sym (length_numbers c.args.set.now.words 8))) c.put.ensures) c.put_numbers.ensures

@@ -17,14 +17,13 @@ put_set-requires c =
     let n = ap length (row_put c.steps.result.words (steps_of l k) c.steps.ensures) in
     let more = length_more (step_of l) (stratum_of l) (size_of l.card.now) k in
     let up = length_up (step_of l) (stratum_of l) (size_of l.card.now) (k + 1) l.count (omega arith) in
-    let room : Room c.args.out.now (length (plan_bytes (levels_below l k)) + (2 + 2 * length (numbers_in c.steps.result.words 8))) = omega arith in
-    writes_room (2 + 2 * length (numbers_in c.steps.result.words 8)) room c.loop-k.invariant
+    let w = c.loop-k.invariant in
+    omega (arith, w.wrote.place, w.long)
 
 pub loop-k-preserved : goal.loop-k-preserved
 loop-k-preserved c =
     let l = c.args.self.now in
     let k = c.loop-k.k in
-    let h : Room c.args.out.now 0 = omega arith in
     let e = ap list_bytes (row_put c.steps.result.words (steps_of l k) c.steps.ensures) in
     let m = ap plan_bytes (rows_more (step_of l) (stratum_of l) (size_of l.card.now) k) ∙ plan_push (levels_below l k) (members (steps_of l k) 512) in
-    writes_as (sym m) (writes_on h c.loop-k.invariant (writes_as e c.put_set.ensures))
+    writes_as (sym m) (writes_on c.loop-k.invariant (writes_as e c.put_set.ensures))
