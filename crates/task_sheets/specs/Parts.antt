@@ -1,5 +1,5 @@
 -- The parts of a task sheet that are handed out: where they lie, and which numbers they hold.
-use Rattle.std.specs.Prelude.{◌≡◌, ℕ, zero, suc, ◌-◌, ◌/◌, ◌<◌, ◌≤◌, min, Bool, true, false, ◌&&◌, List, [], length, Some, None, Option, nat_le, nat_lt, slice_index, slice_index_or}
+use Rattle.std.specs.Prelude.{◌≡◌, ℕ, zero, suc, ◌-◌, ◌/◌, min, Bool, true, false, ◌&&◌, List, [], length, Some, None, Option, nat_le, nat_lt, slice_index_or}
 use Rattle.std.specs.List.{between}
 use Rattle.sheets.specs.Fields.{be16}
 use Rattle.sheets.specs.Lists.{numbers_at}
