@@ -11,12 +11,6 @@ use Rattle.checks.proofs.Marks.{marked_set, marked_other}
 
 -- the table with the rows below n, and after the row of n is written
 module _ (n : ℕ) (rows : List (NumberSet 4)) (clear : (u v : ℕ) → n ≤ v → marked rows u v ≡ false) (low : (u v : ℕ) → v ≤ u → marked rows u v ≡ false) where
-  pub table_upward : (u v : ℕ) → marked rows u v ≡ true → (ltb u v && ltb v n) ≡ true
-  table_upward u v e =
-      and_from (ltb u v) (ltb v n)
-      (elim (cases_lt u v) [ inl l ↦ lt-ltb u v l | inr l ↦ absurd (both_ways _ (low u v l) e) ])
-      (elim (cases_lt v n) [ inl l ↦ lt-ltb v n l | inr l ↦ absurd (both_ways _ (clear u v l) e) ])
-
   pub table_exact : (P : ℕ → ℕ → Type 0) → ((u v : ℕ) → u < v → v < n → Decides (marked rows u v) (P u v)) → ((u v : ℕ) → u < n → v < n → P u v → u < v)
       → (u v : ℕ) → u < n → v < n → (marked rows u v ≡ true → P u v) × (P u v → marked rows u v ≡ true)
   table_exact P told upward u v l k =

@@ -25,11 +25,6 @@ table_more P ts i v l f p k h d =
       | inr j ↦ (let e : i ≡ k = omega arith in subst (λ n. P n (get_or (set ts i v) n d)) e (subst (P i) (sym (get_or-set_same ts i v d l)) p))
     ]
 
--- a set that has nothing outside E is met
-pub met_within : (f g E : Facts) → ((q : ℕ) → f q ≡ g q) → ((q : ℕ) → (f q && not (E q)) ≡ false) → (p : ℕ) → g p ≡ true → E p ≡ true
-met_within f g E e h p t =
-    elim (cases_Bool (E p)) [ inl s ↦ s | inr s ↦ absurd (both_ways _ (h p) (and_from (f p) (not (E p)) (e p ∙ t) (not_from_false (E p) s))) ]
-
 pub first_like : (f g : ℕ → Bool) (p : ℕ) → ((q : ℕ) → f q ≡ g q) → First f p → First g p
 first_like f g p e h = record { here = sym (e p) ∙ h.here; before = λ q l. sym (e q) ∙ h.before q l }
 
@@ -50,52 +45,9 @@ smaller_before xs up P i l f b h s =
       | inr (inr k) ↦ absurd (omega (arith, h.2 0, pairwise_get_or (λ a b. a < b) xs up i h.0 0 k h.1))
     ]
 
--- within a list the default does not matter
-pub at_any : {X : Type 0} (P : X → Type 0) (xs : List X) (i : ℕ) (x : X) → i < length xs → P (get_or xs i x) → HoldsAt P xs i
-at_any P xs i x l p d = subst P (get_or_default xs i x d l) p
-
-module _ (m : Model) (u v : ℕ) where
-  pub not_before_itself : u ≡ v → Decides (not (eqb u v)) (Before m u v)
-  not_before_itself e =
-      Decides-at (not (eqb u v)) false (not_from_true (eqb u v) (eq-eqb u v e)) (λ f. absurd (both_ways false refl f), λ w. absurd (w.differ e))
-
-  -- another step comes before where it is not authorized
-  pub before_decides : (u ≡ v → ⊥) → (s : Bool) → Decides s (Authorizes m v u) → Decides (not s) (Before m u v)
-  before_decides n s h = Decides-like (not s) (λ f. record { differ = n; refused = f }) (λ w. w.refused) (Decides-not s h)
-
--- a set that is marked up to j gets a mark at j, or none
-module _ (old new : ℕ → Bool) (j : ℕ) (r : Bool) (is : (q : ℕ) → new q ≡ (old q || (r && eqb q j))) (empty : (k : ℕ) → j ≤ k → old k ≡ false) where
-  same_elsewhere : (k : ℕ) → (k ≡ j → ⊥) → new k ≡ old k
-  same_elsewhere k n = let e = is k in grind (arith, nat_tests)
-
-  pub empty_more : (k : ℕ) → j + 1 ≤ k → new k ≡ false
-  empty_more k l = same_elsewhere k (λ e. omega arith) ∙ empty k (omega arith)
-
-  marked_here : new j ≡ r
-  marked_here = let e = is j in let f = empty j (omega arith) in grind (arith, nat_tests)
-
-  pub marks_more : (P : ℕ → Type 0) → ((k : ℕ) → k < j → Decides (old k) (P k)) → Decides r (P j) → (k : ℕ) → k < j + 1 → Decides (new k) (P k)
-  marks_more P f h k l =
-      elim (cases_lt k j) [
-        | inl s ↦ Decides-at (new k) (old k) (same_elsewhere k (λ e. omega arith)) (f k s)
-        | inr s ↦ (let e : j ≡ k = omega arith in subst (λ n. Decides (new n) (P n)) e (Decides-at (new j) r marked_here h))
-      ]
-
-pub unmarked : (a r b : Bool) → r ≡ false → a ≡ (a || (r && b))
-unmarked true r b e = refl
-unmarked false r b e = sym (ap (λ s. s && b) e)
-
-or_false : (b : Bool) → (b || false) ≡ b
-or_false true = refl
-or_false false = refl
-
-or_assoc : (a b c : Bool) → (a || (b || c)) ≡ ((a || b) || c)
-or_assoc true b c = refl
-or_assoc false b c = refl
-
 some_push : (f : ℕ → Bool) (xs : List ℕ) (a : ℕ) → some f (xs ++ a ∷ []) ≡ (some f xs || f a)
-some_push f [] a = or_false (f a)
-some_push f (x ∷ xs) a = ap (λ b. f x || b) (some_push f xs a) ∙ or_assoc (f x) (some f xs) (f a)
+some_push f [] a = grind (arith, nat_tests)
+some_push f (x ∷ xs) a = let e = some_push f xs a in grind (arith, nat_tests)
 
 -- one more step
 pub some_more : (f : ℕ → Bool) (xs : List ℕ) (i : ℕ) → i < length xs → some f (take (i + 1) xs) ≡ (some f (take i xs) || f (get_or xs i 0))

@@ -14,7 +14,7 @@ use Rattle.plans.specs.Steps.{Met}
 use Rattle.plans.specs.Plans.{Authorized, Recognized, Accepted, finally}
 use Rattle.plans.specs.Plans as plans
 use Rattle.plans.specs.Places.{Stands, Arranged}
-use Rattle.plans.proofs.Arranging.{Agree, arranged_none, arranged_more}
+use Rattle.plans.proofs.Arranging.{Agree, arranged_more}
 use Rattle.plans.proofs.Picks.{turning}
 use Rattle.sheets.specs.Lists.{Ascending}
 use Rattle.task_sheets.specs.Content.{Task, total, LawfulLevel, LawfulTask}
@@ -96,16 +96,6 @@ module _ (m : Model) (bs : List ℕ) (k : ℕ) (old new : List PlacedStep) (g : 
     ];
   }
 
--- no level yet
-pub drafted_none : (m : Model) (t : Task) (words : List ℕ) (d : List PlacedStep) → d ≡ [] → ((q : ℕ) → holds words q ≡ listed t.start q) → Drafted m t 0 words d
-drafted_none m t words d e h = record {
-  passed = tt;
-  facts = h;
-  arranged = arranged_none m (places_of d) (ap length e);
-  count = ap length e;
-  filled = record { facts = λ u l. absurd (omega (arith, ap length e)); level = λ u l. absurd (omega (arith, ap length e)) };
-}
-
 -- k levels have passed, and xs is the next one
 module _ (m : Model) (t : Task) (k : ℕ) (words : List ℕ) (d : List PlacedStep) (h : Drafted m t k words d) (xs : List ℕ) (l : k < length t.levels) (e : get_or t.levels k [] ≡ xs) where
   same_facts : holds words ≡ facts_after_levels m t k
@@ -163,19 +153,6 @@ module _ (m : Model) (t : Task) (k : ℕ) (words : List ℕ) (d : List PlacedSte
   )
   level_refused ok (GoalMissing p) r = absurd r
 
--- all levels have passed
-module _ (m : Model) (t : Task) (k : ℕ) (words : List ℕ) (d : List PlacedStep) (h : Drafted m t k words d) (l : length t.levels ≤ k) where
-  pub drafted_all : Drafted m t (length t.levels) words d
-  drafted_all =
-      let e : take k t.levels ≡ take (length t.levels) t.levels = take_all k t.levels l ∙ sym (take_all (length t.levels) t.levels (omega arith)) in
-      record {
-        passed = subst (Recognized m (listed t.start)) e h.passed;
-        facts = λ q. h.facts q ∙ ap (λ plan. finally m (listed t.start) plan q) e;
-        arranged = subst (λ plan. Arranged m plan (places_of d)) e h.arranged;
-        count = h.count ∙ ap total e;
-        filled = h.filled;
-      }
-
 -- what is left of a list begins with y
 pub next_of : (xs : List (List ℕ)) (k : ℕ) (y : List ℕ) (ys r : List (List ℕ)) → drop k xs ≡ r → r ≡ y ∷ ys → (k < length xs) × (get_or xs k [] ≡ y) × (drop (k + 1) xs ≡ ys)
 next_of xs k y ys r f g =
@@ -195,22 +172,8 @@ module _ (m : Model) (t : Task) (words : List ℕ) (d : List PlacedStep) (h : Dr
   pub all_recognized : Recognized m (listed t.start) t.levels
   all_recognized = subst (Recognized m (listed t.start)) whole h.passed
 
-  pub all_drafted : PlanDrafted m t d
-  all_drafted = record { arranged = subst (λ plan. Arranged m plan (places_of d)) whole h.arranged; filled = h.filled }
-
   pub all_ends : EndsIn m t words
   all_ends q = h.facts q ∙ ap (λ plan. finally m (listed t.start) plan q) whole
-
-  -- the facts at the end, and what the goal has of them
-  same_end : holds words ≡ finally m (listed t.start) t.levels
-  same_end = fun_ext all_ends
-
-  pub goal_missed : Matches m t → (f : PlanFault) → Reached t.goal (holds words) (Err f) → Checked m t (Err f)
-  goal_missed ok (Sheet f) r = r
-  goal_missed ok Mismatch r = absurd r
-  goal_missed ok (NeedMissing n a p) r = absurd r
-  goal_missed ok (NoOrder n) r = absurd r
-  goal_missed ok (GoalMissing p) r = (ok, record { passed = all_recognized; missing = subst (λ (E : Facts). First (λ q. listed t.goal q && not (E q)) p) same_end r })
 
   pub goal_reached : ((p : ℕ) → listed t.goal p ≡ true → holds words p ≡ true) → Accepted m (listed t.start) (listed t.goal) t.levels
   goal_reached r = record { recognized = all_recognized; reached = λ p g. sym (all_ends p) ∙ r p g }

@@ -1,5 +1,5 @@
 // The check of a plan: its levels passed in turn, then its goal looked for.
-ghost use Rattle.std.specs.Prelude.{◌≡◌, ℕ, List, [], length, IfOk, Ok, Err, MatchResult, OnOk};
+ghost use Rattle.std.specs.Prelude.{◌≡◌, [], length, IfOk, Ok, Err, MatchResult, OnOk};
 ghost use Rattle.facts.specs.Sets.{holds};
 ghost use Rattle.task_sheets.specs.Opened.{task_of};
 ghost use Rattle.checks.specs.Arrangements.{Arranges, OneArrangement};

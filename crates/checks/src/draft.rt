@@ -1,4 +1,4 @@
-ghost use Rattle.std.specs.Prelude.{◌≡◌, ◌≢◌, Decides};
+ghost use Rattle.std.specs.Prelude.{Decides};
 ghost use Rattle.books.specs.Book.{Model};
 ghost use Rattle.books.specs.Gathered.{Gathers};
 ghost use Rattle.plans.specs.Steps.{Authorizes};

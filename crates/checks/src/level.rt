@@ -51,7 +51,8 @@ fn settle(facts: &FactSet, deletes: &FactSet, adds: &FactSet) -> FactSet
 }
 
 impl Level {
-    // The level of these steps; refused at the first one that has a need missing in `facts`.
+    // The level of these steps; refused at the first one that has a need missing in `facts`. As many as are placed, so many
+    // numbers of the list are read.
     fn gathered<B: Book>(
         book: &B,
         facts: &FactSet,
@@ -102,7 +103,8 @@ impl Level {
         PlaceSet::from_fn(self.steps.len(), |j| self.comes_before(j, i))
     }
 
-    // The rows of all steps. An array of fixed length: callers have no allocator, and no Default is derived for a set.
+    // The rows of all steps, each at its step's position. Of fixed length, since callers have no allocator; the loop goes by
+    // number, which is asked for and written to.
     fn rows(&self) -> [PlaceSet; 256]
         ensures { (m : Model) → Told m self.now.steps.items → Rowed m (steps_of self.now.steps.items) result }
     {

@@ -17,8 +17,3 @@ loop-j-preserved c q =
           (ap (λ (s : NumberSet 16). holds s.words q) w.set-is ∙ w.insert.ensures.after q) (c.loop-j.invariant q))
       | in_default w ↦ absurd (omega (arith, w.in_default.ensures))
     ]
-
-pub returns : goal.returns
-returns c q =
-    c.loop-j.invariant q
-    ∙ ap (λ ps. ltb q 1024 && listed ps q) (take_all c.loop-j.j (numbers_of c.args.numbers.now) (omega arith))

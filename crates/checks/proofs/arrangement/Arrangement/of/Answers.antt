@@ -7,7 +7,7 @@ use Rattle.checks.specs.Drafts.{placed, places_of}
 use Rattle.checks.specs.Rows.{marked}
 use Rattle.checks.specs.Tables.{blank, Exact}
 use Rattle.checks.proofs.Marks.{marked_none}
-use Rattle.checks.proofs.Filling.{table_upward, table_exact, table_clear, table_low, table_told, all_same, copied_more, same_places}
+use Rattle.checks.proofs.Filling.{table_exact, table_clear, table_low, table_told, all_same, copied_more, same_places}
 use Rattle.checks.proofs.arrangement.Arrangement.of.Goals as goal
 
 pub loop-v-init : goal.loop-v-init
@@ -35,17 +35,6 @@ loop-v-preserved c =
           (omega (arith, length-map c.args.draft.now (λ (s : PlacedStep). s.place))) (omega arith)
           (get_or-map (λ (s : PlacedStep). s.place) c.args.draft.now c.loop-v.v c.index-draft-v.result blank (omega arith)
           ∙ sym (ap (λ (s : PlacedStep). s.place) c.index-draft-v.is)) i.copied;
-    }
-
-pub invariant_of-result : goal.invariant_of-result
-invariant_of-result c =
-    let i = c.loop-v.invariant in
-    let done : c.loop-v.v ≡ length c.args.draft.now = omega arith in
-    record {
-      few = c.requires;
-      sized = i.sized;
-      tabled = i.tabled;
-      upward = rw (← done) (table_upward c.loop-v.v c.loop-v.before i.clear i.low);
     }
 
 pub returns : goal.returns
