@@ -1,15 +1,14 @@
 -- One level: what each turn of a loop over its steps keeps.
-use Rattle.std.proofs.Common.{◌≡◌, ℕ, suc, ◌+◌, ◌<◌, ◌≤◌, Bool, true, false, not, ◌&&◌, ◌||◌, eqb, List, [], ◌∷◌, ◌++◌, length, get_or, take, set, Decides, sym, refl, ap, ◌∙◌, subst, inl, inr, arith, get_or-set_other, get_or-set_same}
+use Rattle.std.proofs.Common.{◌≡◌, ℕ, suc, ◌+◌, ◌<◌, ◌≤◌, Bool, false, ◌||◌, List, [], ◌∷◌, ◌++◌, length, get_or, take, set, Decides, sym, ap, ◌∙◌, subst, inl, inr, arith, get_or-set_other, get_or-set_same}
 use Rattle.std.specs.List.{ContainsAt as Has, HoldsAt}
-use Rattle.std.proofs.lemmas.List.{get_or_default, get_or-map, take_more}
+use Rattle.std.proofs.lemmas.List.{get_or-map, take_more}
 use Rattle.std.proofs.ByRecursion.{All-from_get_or}
-use Rattle.std.proofs.lemmas.Bool.Decides.{nat_tests, Decides-like, Decides-not, Decides-at}
-use Rattle.std.proofs.lemmas.Bool.{cases_lt, cases_order, cases_Bool, both_ways, and_from, not_from_false, not_from_true, eq-eqb}
+use Rattle.std.proofs.lemmas.Bool.Decides.{nat_tests, Decides-like}
+use Rattle.std.proofs.lemmas.Bool.{cases_lt, cases_order, both_ways}
 use Rattle.facts.specs.Sets.{First}
-use Rattle.books.specs.Book.{Model, Facts}
+use Rattle.books.specs.Book.{Model}
 use Rattle.books.specs.Gathered.{Gathers}
-use Rattle.plans.specs.Steps.{Authorizes, some}
-use Rattle.plans.specs.Order.{Before}
+use Rattle.plans.specs.Steps.{some}
 use Rattle.plans.specs.Plans.{Ascending}
 use Rattle.plans.proofs.Members.{pairwise_get_or}
 use Rattle.checks.specs.declared.arrangement.Place.{Place}

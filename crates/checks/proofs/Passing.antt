@@ -1,12 +1,12 @@
 -- The levels of a plan, passed one after the other.
-use Rattle.std.proofs.Common.{◌≡◌, ℕ, zero, suc, ◌+◌, ◌-◌, ◌<◌, ◌≤◌, true, not, ◌&&◌, List, [], ◌∷◌, ◌++◌, length, get_or, map, take, drop, Err, sym, ap, ◌∙◌, subst, inl, inr, add-one, arith, length-append}
+use Rattle.std.proofs.Common.{◌≡◌, ℕ, zero, suc, ◌+◌, ◌-◌, ◌<◌, ◌≤◌, true, List, [], ◌∷◌, ◌++◌, length, get_or, map, take, drop, Err, sym, ap, ◌∙◌, subst, inl, inr, add-one, arith, length-append}
 use mathlib.Core.Path.{fun_ext}
 use Rattle.std.specs.List.{AllByRecursion}
 use Rattle.std.proofs.lemmas.List.{take_more, take_all, drop_more, length-drop, length-take-le, length-map, map-append, get_or_append_left, get_or-append-add, get_or-map}
-use Rattle.std.proofs.ByRecursion.{All-from_get_or, All-get_or}
+use Rattle.std.proofs.ByRecursion.{All-get_or}
 use Rattle.std.proofs.lemmas.List.Sorted.{length_permutation}
 use Rattle.std.proofs.lemmas.Bool.{cases_lt}
-use Rattle.facts.specs.Sets.{holds, First}
+use Rattle.facts.specs.Sets.{holds}
 use Rattle.books.specs.Book.{Model, Facts}
 use Rattle.books.specs.Gathered.{Gathers}
 use Rattle.books.specs.Listed.{listed}
@@ -24,8 +24,8 @@ use Rattle.checks.specs.declared.fault.PlanFault.{PlanFault}
 use Rattle.checks.specs.declared.fault.PlanFault.TheVariants.{Sheet, Mismatch, NeedMissing, NoOrder, GoalMissing}
 use Rattle.checks.specs.declared.draft.PlacedStep.{PlacedStep}
 use Rattle.checks.specs.Tables.{blank}
-use Rattle.checks.specs.Checked.{Matches, facts_after_levels, Checked, EndsIn, Reached}
-use Rattle.checks.specs.Drafts.{placed, places_of, Told, Filled, Drafted, PlanDrafted}
+use Rattle.checks.specs.Checked.{Matches, facts_after_levels, Checked, EndsIn}
+use Rattle.checks.specs.Drafts.{placed, places_of, Told, Filled, Drafted}
 use Rattle.checks.proofs.Turns.{holds_append}
 use Rattle.checks.proofs.Levels.{pairwise_climbs}
 use Rattle.checks.specs.Levels.{Grown, LevelPassed, LacksNeed, LevelRefused}

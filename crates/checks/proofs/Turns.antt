@@ -17,7 +17,6 @@ use Rattle.plans.proofs.Taking.{FreeAt, Taking, taking_all, taking_stuck, taking
 use Rattle.checks.specs.Drafts.{Told}
 use Rattle.checks.specs.Levels.{Rowed, ReadyAt, Grown}
 use Rattle.checks.specs.declared.draft.PlacedStep.{PlacedStep}
-use Rattle.checks.specs.declared.arrangement.Place.{Place}
 
 authorizes_stable : (m : Model) (u v : ℕ) → ((Authorizes m u v → ⊥) → ⊥) → Authorizes m u v
 authorizes_stable m u v f = record {

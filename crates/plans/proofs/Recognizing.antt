@@ -1,6 +1,5 @@
 -- Recognition level by level: level i passes from the final facts of the levels before it.
-use Rattle.std.proofs.Common.{◌≡◌, ℕ, zero, suc, ◌+◌, ◌<◌, List, [], ◌∷◌, ◌++◌, length, get_or, take, sym, refl, ap, ◌∙◌, subst, arith}
-use Rattle.std.proofs.lemmas.List.{take_more}
+use Rattle.std.proofs.Common.{◌≡◌, ℕ, zero, suc, ◌<◌, List, [], ◌∷◌, ◌++◌, length, get_or, take, refl, arith}
 use Rattle.books.specs.Book.{Model, Facts}
 use Rattle.plans.specs.Steps.{passed}
 use Rattle.plans.specs.Plans.{Passes, Recognized, finally}

@@ -1,7 +1,6 @@
-use Rattle.std.proofs.Common.{◌≡◌, ◌+◌, length, take, sym, ap, ◌∙◌, subst, inl, arith}
+use Rattle.std.proofs.Common.{◌≡◌, ◌+◌, length, ap, subst, inl, arith}
 use Rattle.std.proofs.lemmas.Result.{err_from_is_err_and}
 use Rattle.facts.specs.Sets.{holds}
-use Rattle.plans.specs.Plans as plans
 use Rattle.task_sheets.specs.Parts.{numbers_of}
 use Rattle.task_sheets.specs.Opened.{task_of, rest}
 use Rattle.checks.specs.Levels.{LevelRefused, LevelPassed}

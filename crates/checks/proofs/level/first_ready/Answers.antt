@@ -1,4 +1,4 @@
-use Rattle.std.proofs.Common.{ℕ, ◌<◌, ◌≤◌, Option, Some, None, MatchOption, rules, tests, arith}
+use Rattle.std.proofs.Common.{ℕ, ◌<◌, ◌≤◌, Option, Some, None, MatchOption, rules, arith}
 use Rattle.std.proofs.lemmas.Iterator.{first_from_Range}
 use Rattle.checks.specs.Levels.{ReadyAt}
 use Rattle.checks.proofs.level.first_ready.Goals as goal

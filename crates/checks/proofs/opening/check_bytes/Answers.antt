@@ -1,11 +1,8 @@
-use Rattle.std.proofs.Common.{◌≡◌, ℕ, List, Ok, Err, Result, refl, ap, ◌∙◌}
+use Rattle.std.proofs.Common.{◌≡◌, Ok, Err, Result, refl, ap, ◌∙◌}
 use Rattle.std.proofs.lemmas.Result.{err_from_is_err_and}
 use Rattle.sheets.specs.declared.fault.SheetFault.{SheetFault}
-use Rattle.book_sheets.specs.Content as book
-use Rattle.task_sheets.specs.Content as task
 use Rattle.checks.specs.declared.fault.PlanFault.{PlanFault}
-use Rattle.checks.specs.Checked.{Checked, bare}
-use Rattle.checks.specs.Bytes.{Unless, BytesEndIn}
+use Rattle.checks.specs.Bytes.{Unless}
 use Rattle.checks.proofs.opening.check_bytes.Goals as goal
 
 -- a sheet is refused, and nothing more is asked

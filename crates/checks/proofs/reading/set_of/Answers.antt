@@ -1,8 +1,6 @@
-use Rattle.std.proofs.Common.{◌&&◌, ltb, ap, ◌∙◌, arith}
-use Rattle.std.proofs.lemmas.List.{take_all}
+use Rattle.std.proofs.Common.{ap, ◌∙◌, arith}
 use Rattle.facts.specs.declared.NumberSet.{NumberSet}
 use Rattle.facts.specs.Sets.{holds}
-use Rattle.books.specs.Listed.{listed}
 use Rattle.task_sheets.specs.Parts.{numbers_of}
 use Rattle.checks.proofs.TaskLists.{set_more}
 use Rattle.checks.proofs.reading.set_of.Goals as goal
