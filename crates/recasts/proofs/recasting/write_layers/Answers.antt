@@ -1,12 +1,10 @@
-use Rattle.std.proofs.Common.{◌+◌, ◌++◌, length, drop, sym, refl, ap, ◌∙◌, rules, arith, length-append}
+use Rattle.std.proofs.Common.{◌++◌, length, drop, sym, refl, ap, ◌∙◌, rules, arith}
 use Rattle.std.proofs.lemmas.Result.{err_from_is_err_and}
-use Rattle.sheets.specs.Writers.{Room}
-use Rattle.sheets.proofs.Writers.{writes_on, writes_as, writes_room, writes_front}
-use Rattle.task_sheets.specs.Content.{list_bytes, plan_bytes, encode}
+use Rattle.sheets.proofs.Writers.{writes_on, writes_as, writes_front}
+use Rattle.task_sheets.specs.Content.{list_bytes, encode}
 use Rattle.task_sheets.specs.Opened.{task_of}
 use Rattle.task_sheets.specs.Parts.{part_numbers}
 use Rattle.task_sheets.proofs.Decodes.{length_list_bytes}
-use Rattle.recasts.specs.Headers.{header_bytes}
 use Rattle.recasts.specs.Layers.{layered, levels_of}
 use Rattle.recasts.proofs.Plans.{length_plan}
 use Rattle.recasts.proofs.Sheets.{list_length, levels_length, length_layered, layered_parts, short_written}

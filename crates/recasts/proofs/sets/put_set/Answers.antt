@@ -1,10 +1,8 @@
-use Rattle.std.proofs.Common.{◌*◌, length, sym, ap, ◌∙◌, arith}
+use Rattle.std.proofs.Common.{sym, ap, ◌∙◌, arith}
 use Rattle.facts.specs.Sets.{holds}
 use Rattle.books.proofs.Members.{length_members}
 use Rattle.sheets.specs.Fields.{two}
-use Rattle.sheets.specs.Writers.{Room}
 use Rattle.sheets.proofs.Writers.{writes_on, writes_as}
-use Rattle.book_sheets.specs.Numbers.{numbers_in}
 use Rattle.book_sheets.proofs.NumberLists.{length_numbers}
 use Rattle.recasts.proofs.Rows.{members_few}
 use Rattle.recasts.proofs.sets.put_set.Goals as goal

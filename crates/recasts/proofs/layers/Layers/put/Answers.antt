@@ -1,9 +1,7 @@
-use Rattle.std.proofs.Common.{◌+◌, ◌*◌, length, sym, ap, ◌∙◌, arith}
+use Rattle.std.proofs.Common.{◌+◌, length, sym, ap, ◌∙◌, arith}
 use Rattle.cards.specs.Cards.{size_of}
 use Rattle.books.specs.Listed.{members}
-use Rattle.book_sheets.specs.Numbers.{numbers_in}
-use Rattle.sheets.specs.Writers.{Room}
-use Rattle.sheets.proofs.Writers.{writes_on, writes_as, writes_room}
+use Rattle.sheets.proofs.Writers.{writes_on, writes_as}
 use Rattle.task_sheets.specs.Content.{list_bytes, plan_bytes}
 use Rattle.recasts.specs.Layers.{step_of, stratum_of, steps_of, levels_below}
 use Rattle.recasts.proofs.Rows.{rows_more, row_put}
