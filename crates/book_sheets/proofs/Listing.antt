@@ -1,11 +1,11 @@
 -- The numbers of a set as a list of a sheet: it ascends, and is written number by number.
-use Rattle.std.proofs.Common.{◌≡◌, ℕ, zero, suc, ◌+◌, ◌*◌, ◌<◌, ◌≤◌, true, false, ltb, List, [], ◌∷◌, ◌++◌, length, get_or, sym, refl, ap, ◌∙◌, inl, inr, arith}
+use Rattle.std.proofs.Common.{◌≡◌, ℕ, zero, suc, ◌+◌, ◌*◌, ◌<◌, ◌≤◌, true, ltb, List, [], ◌∷◌, ◌++◌, length, get_or, sym, refl, ap, ◌∙◌, inl, inr, arith}
 use Rattle.std.proofs.lemmas.Bool.{cases_Bool, cases_lt, and_parts}
 use Rattle.std.proofs.lemmas.List.{append-nil, length_push, get_or_push, get_or_append_left}
 use Rattle.books.specs.Book.{Facts}
 use Rattle.books.specs.Listed.{members}
 use Rattle.books.proofs.Counts.{count_hit}
-use Rattle.books.proofs.Members.{length_members, members_hit, members_miss, count_up, listed_members}
+use Rattle.books.proofs.Members.{length_members, count_up, listed_members}
 use Rattle.sheets.specs.Fields.{two, twos}
 use Rattle.sheets.specs.Lists.{Ascending}
 use Rattle.sheets.proofs.Stands.{length_twos}
