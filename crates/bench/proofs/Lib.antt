@@ -1,3 +1,4 @@
 mod Bytes
+mod Chunks
 mod Telling
 mod Runs

@@ -51,7 +51,13 @@ not_drawn m span t c c' (TooShort f) board h = h
 -- the issue is refused
 pub not_issued : (m : Model) (span : ℕ) (t : Task) (script before after : List ℕ) (c : Card) (r : Result ℕ RunFault) (f : RunFault)
     → r ≡ Err f → size_of c ≡ 0 → DrawAnswered m span t c (Err f) → after ≡ before → RunAnswered m span t script before r after
-not_issued m span t script before after c r f e z d s = rw e (c, z, d, s)
+not_issued m span t script before after c r (Plan f) e z d s = rw e (c, z, d, s)
+not_issued m span t script before after c r InHand e z d s = rw e (c, z, d, s)
+not_issued m span t script before after c r SpanTooSmall e z d s = rw e (c, z, d, s)
+not_issued m span t script before after c r NoPlace e z d s = absurd d
+not_issued m span t script before after c r WrongState e z d s = absurd d
+not_issued m span t script before after c r (Unfinished u) e z d s = absurd d
+not_issued m span t script before after c r (TooShort f) e z d s = absurd d
 
 -- the records on a board whose span is known by another name
 pub records_at : (m : Model) (span span' : ℕ) (c : Card) (b : Moment) (script before : List ℕ) (n : ℕ) (after : List ℕ)

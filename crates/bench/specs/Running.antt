@@ -1,5 +1,5 @@
 -- A crew's script as bytes, and what the call that carries it out answers.
-use Rattle.std.specs.Prelude.{◌≡◌, ℕ, zero, suc, ◌+◌, ◌*◌, ◌/◌, ◌^◌, ◌<◌, ◌≤◌, cond, ◌⊎◌, List, [], ◌∷◌, ◌++◌, length, Ok, Err, Result, ◌==◌, slice_index}
+use Rattle.std.specs.Prelude.{◌≡◌, ℕ, zero, suc, ◌+◌, ◌-◌, ◌*◌, ◌/◌, ◌^◌, ◌<◌, ◌≤◌, min, cond, List, [], ◌∷◌, ◌++◌, length, Ok, Err, Result, ◌==◌, slice_index}
 use Rattle.books.specs.Book.{Model, Facts}
 use Rattle.sheets.specs.Fields.{be16}
 use Rattle.sheets.specs.Writing.{Wrote}
@@ -17,6 +17,7 @@ use Rattle.cards.specs.declared.request.Reply.{Reply}
 use Rattle.cards.specs.declared.request.Request.{Request}
 use Rattle.cards.specs.declared.request.Request.TheVariants.{Call, Look}
 use Rattle.cards.specs.declared.fault.RunFault.{RunFault}
+use Rattle.cards.specs.declared.fault.RunFault.TheVariants.{Plan, InHand, SpanTooSmall, NoPlace, WrongState, Unfinished, TooShort}
 use Rattle.bench.specs.Records.{word_bytes, bytes_of_reply}
 use Rattle.bench.specs.Opening.{OnSheets}
 
@@ -57,18 +58,28 @@ pub record Records (s : Setting) (b : Moment) (script before : List ℕ) (n : �
   pub told : Told s b (requests_to script (length script / 3)) bytes end
   pub wrote : Wrote before 0 bytes after n
 
--- the answer to a run of a script from a moment on: the length of the records; or that the buffer is too short for them, and
--- then it is as it was
-abbrev pub Recorded : Setting → Moment → List ℕ → List ℕ → ℕ → List ℕ → Type 0
-Recorded s b script before n after =
-    ((length before < room script) × (n ≡ 2 ^ 32) × (after ≡ before)) ⊎ ((room script ≤ length before) × Records s b script before n after)
-
--- the answer to a run, from a card without places and a board of that span. Where it is carried out, the card was drawn up for the task and the task issued
-abbrev pub RunAnswered : Model → ℕ → Task → List ℕ → List ℕ → Result ℕ RunFault → List ℕ → Type 0
-RunAnswered m span t script before (Ok n) after =
+-- a run: the card was drawn up for the task, the task is issued, and the rest is as P says of the setting and the moment then
+abbrev pub Ran : Model → ℕ → Task → (Setting → Moment → Type 0) → Type 0
+Ran m span t P =
     (c : Card) × (board : Facts) × DrawnUp (setting_of m span c) t (state_of c) × Issued (setting_of m span c) t (moment_of c board) × Numbered c
-    × Recorded (setting_of m span c) (moment_of c board) script before n after
-RunAnswered m span t script before (Err f) after = (c : Card) × (size_of c ≡ 0) × DrawAnswered m span t c (Err f) × (after ≡ before)
+    × P (setting_of m span c) (moment_of c board)
+
+-- the run is refused as the card would not be drawn up, and the buffer is as it was
+abbrev pub NotRun : Model → ℕ → Task → RunFault → List ℕ → List ℕ → Type 0
+NotRun m span t f before after = (c : Card) × (size_of c ≡ 0) × DrawAnswered m span t c (Err f) × (after ≡ before)
+
+-- the answer to a run, from a card without places and a board of that span: the length of the records; or that the buffer is too
+-- short for them, with the length that is needed, which stops at the top of its type, and then it is as it was
+abbrev pub RunAnswered : Model → ℕ → Task → List ℕ → List ℕ → Result ℕ RunFault → List ℕ → Type 0
+RunAnswered m span t script before (Ok n) after = Ran m span t (λ s b. (room script ≤ length before) × Records s b script before n after)
+RunAnswered m span t script before (Err (TooShort e)) after =
+    Ran m span t (λ s b. (length before < room script) × (e.needed ≡ min (room script) (2 ^ 64 - 1)) × (after ≡ before))
+RunAnswered m span t script before (Err (Plan f)) after = NotRun m span t (Plan f) before after
+RunAnswered m span t script before (Err InHand) after = NotRun m span t InHand before after
+RunAnswered m span t script before (Err SpanTooSmall) after = NotRun m span t SpanTooSmall before after
+RunAnswered m span t script before (Err NoPlace) after = NotRun m span t NoPlace before after
+RunAnswered m span t script before (Err WrongState) after = NotRun m span t WrongState before after
+RunAnswered m span t script before (Err (Unfinished u)) after = NotRun m span t (Unfinished u) before after
 
 abbrev pub BytesRun : List ℕ → List ℕ → ℕ → List ℕ → List ℕ → Result ℕ RunFault → List ℕ → Type 0
 BytesRun bs ts span script before r after = OnSheets bs ts before r after (λ m t. RunAnswered m span t script before r after)

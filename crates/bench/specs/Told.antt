@@ -28,6 +28,13 @@ told_recast (Err NoPlace) = refused NoPlace
 told_recast (Err WrongState) = refused WrongState
 told_recast (Err (Unfinished u)) = refused (Unfinished u)
 
+-- a run's buffer that is too short has one number, whatever length is needed
 abbrev pub told_run : Result ℕ RunFault → ℕ
 told_run (Ok n) = n
-told_run (Err f) = refused f
+told_run (Err (Short e)) = 2 ^ 32
+told_run (Err (Plan f)) = refused (Plan f)
+told_run (Err InHand) = refused InHand
+told_run (Err SpanTooSmall) = refused SpanTooSmall
+told_run (Err NoPlace) = refused NoPlace
+told_run (Err WrongState) = refused WrongState
+told_run (Err (Unfinished u)) = refused (Unfinished u)

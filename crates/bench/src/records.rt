@@ -1,5 +1,5 @@
 // Replies and facts as bytes.
-ghost use Rattle.std.specs.Prelude.{◌≡◌, ℕ, ◌+◌, ◌/◌, ◌%◌, ◌≤◌, length};
+ghost use Rattle.std.specs.Prelude.{◌≡◌, ℕ, ◌+◌, ◌/◌, ◌%◌, [], ◌∷◌};
 ghost use Rattle.facts.specs.Sets.{holds};
 ghost use Rattle.sheets.specs.Writers.{Room, Writes};
 ghost use Rattle.bench.specs.Records.{eight, word_bytes, bytes_of_reply, code_of_state, value_of, RecordPut};
@@ -32,15 +32,10 @@ pub(crate) fn put_facts(writer: &mut Writer, facts: FactSet)
 fn facts_on<D: Board>(board: &D) -> FactSet
     ensures { (q : ℕ) → holds result.words q ≡ D.Board.set board.now q }
 {
-    let mut facts = FactSet::empty();
-    for p in 0..1024 {
-        if board.held(p) {
-            facts.insert(p);
-        }
-    }
-    facts
+    FactSet::from_fn(1024, |p| board.held(p))
 }
 
+// A match to numbers: they are the codes of the C interface.
 fn state_code(state: State) -> u8
     ensures { result ≡ code_of_state state }
 {
@@ -61,48 +56,34 @@ fn value_of(fault: RunFault) -> usize
     }
 }
 
-// The lower two bytes of a number, the higher of them first.
-fn low_bytes(n: usize) -> (u8, u8)
-    ensures { (result.0 ≡ n / 256 % 256) × (result.1 ≡ n % 256) }
+// Writes the lower two bytes of a number, the higher of them first.
+fn put_low(writer: &mut Writer, n: usize)
+    requires { Room writer.old 2 }
+    ensures { Writes writer.old (n / 256 % 256 ∷ n % 256 ∷ []) writer.new }
 {
-    ((n / 256 % 256) as u8, (n % 256) as u8)
+    writer.put((n % 65536) as u16);
 }
 
-// A reply in 16 bytes: 0, granted; 1, then step and level in two bytes each and the state; 2, then the refusal's number
-// and in eight bytes what it names.
-fn reply_bytes(reply: Reply) -> [u8; 16]
-    ensures { result ≡ bytes_of_reply reply }
+// Writes a reply in 16 bytes: 0, granted; 1, then step and level in two bytes each and the state; 2, then the refusal's
+// number and in eight bytes what it names.
+fn put_reply(writer: &mut Writer, reply: Reply)
+    requires { Room writer.old 16 }
+    ensures { Writes writer.old (bytes_of_reply reply) writer.new }
 {
     match reply {
-        Reply::Granted => [0; 16],
+        Reply::Granted => writer.put_bytes(&[0; 16]),
         Reply::Seen { step, level, state } => {
-            let (s, t) = low_bytes(step);
-            let (k, l) = low_bytes(level);
-            [
-                1,
-                s,
-                t,
-                k,
-                l,
-                state_code(state),
-                0,
-                0,
-                0,
-                0,
-                0,
-                0,
-                0,
-                0,
-                0,
-                0,
-            ]
+            writer.put(1u8);
+            put_low(writer, step);
+            put_low(writer, level);
+            writer.put(state_code(state));
+            writer.put_bytes(&[0; 10]);
         }
         Reply::Refused(fault) => {
-            let v = u64::to_be_bytes(value_of(fault) as u64);
-            let number = fault.number();
-            [
-                2, number, v[0], v[1], v[2], v[3], v[4], v[5], v[6], v[7], 0, 0, 0, 0, 0, 0,
-            ]
+            writer.put(2u8);
+            writer.put(fault.number());
+            put_number(writer, value_of(fault));
+            writer.put_bytes(&[0; 6]);
         }
     }
 }
@@ -113,6 +94,6 @@ pub(crate) fn put_record<D: Board>(writer: &mut Writer, reply: Reply, board: &D)
     ensures bytes { RecordPut writer.old reply (D.Board.set board.now) writer.new }
     ensures place { writer.new.at ≡ writer.old.at + 144 }
 {
-    writer.put_bytes(&reply_bytes(reply));
+    put_reply(writer, reply);
     put_facts(writer, facts_on(board));
 }

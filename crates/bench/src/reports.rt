@@ -24,6 +24,7 @@ pub(crate) fn put_accepted(out: &mut [u8], facts: FactSet) -> usize
     writer.place()
 }
 
+// A match to numbers: they are the codes of the C interface.
 fn sheet_code(sheet: Sheet) -> u8
     ensures { result ≡ code_of_sheet sheet }
 {

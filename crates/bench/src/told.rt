@@ -1,12 +1,12 @@
 // The numbers that are answered.
 ghost use Rattle.std.specs.Prelude.{◌≡◌};
-ghost use Rattle.bench.specs.Told.{short, told_length, told_recast, told_run};
+ghost use Rattle.bench.specs.Told.{short, refused, told_length, told_recast, told_run};
 
 use cards::RunFault;
 use sheets::TooShort;
 
 // A buffer is too short: this number, and the length that is needed.
-pub(crate) const SHORT: u64 = 0x1_0000_0000;
+const SHORT: u64 = 0x1_0000_0000;
 
 // Refused: this number and the refusal's.
 const REFUSED: u64 = 0x2_0000_0000;
@@ -16,6 +16,13 @@ fn too_short(fault: TooShort) -> u64
     ensures { result ≡ short fault.needed }
 {
     SHORT.saturating_add(fault.needed as u64)
+}
+
+// The number for a refusal.
+fn refused(fault: RunFault) -> u64
+    ensures { result ≡ refused fault }
+{
+    REFUSED + u64::from(fault.number())
 }
 
 // The number for a length.
@@ -35,16 +42,17 @@ pub(crate) fn recast(answer: Result<usize, RunFault>) -> u64
     match answer {
         Ok(n) => n as u64,
         Err(RunFault::TooShort(fault)) => too_short(fault),
-        Err(fault) => REFUSED + fault.number() as u64,
+        Err(fault) => refused(fault),
     }
 }
 
-// The number for a run.
-pub(crate) fn run(answer: Result<u64, RunFault>) -> u64
+// The number for a run. A buffer that is too short for the records has one number, whatever length is needed.
+pub(crate) fn run(answer: Result<usize, RunFault>) -> u64
     ensures { result ≡ told_run answer }
 {
     match answer {
-        Ok(n) => n,
-        Err(fault) => REFUSED + fault.number() as u64,
+        Ok(n) => n as u64,
+        Err(RunFault::TooShort(_)) => SHORT,
+        Err(fault) => refused(fault),
     }
 }

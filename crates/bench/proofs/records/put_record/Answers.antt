@@ -1,4 +1,4 @@
-use Rattle.sheets.proofs.Writers.{writes_on, writes_as}
+use Rattle.sheets.proofs.Writers.{writes_on}
 use Rattle.bench.proofs.records.put_record.Goals as goal
 
 pub returns-clause-bytes : goal.returns-clause-bytes
@@ -6,5 +6,5 @@ returns-clause-bytes g c =
     record {
       words = c.facts_on.result.words;
       facts = c.facts_on.ensures;
-      writes = writes_on (writes_as c.reply_bytes.ensures c.put_bytes.ensures) c.put_facts.ensures.bytes;
+      writes = writes_on c.put_reply.ensures c.put_facts.ensures.bytes;
     }
