@@ -4,43 +4,18 @@
 use boards::BitBoard;
 use book_sheets::BookSheet;
 use books::Book;
-use cards::{Card, begin, finish, issue};
+use cards::{Card, RunFault, begin, finish, issue};
 use checks::check;
+use commands::accepted;
+use desk::files::read_sheet;
 use facts::FactSet;
-use std::io::{ErrorKind, Read};
-use std::{fs, io};
+use sheets::keeps_length;
+use std::io;
 use task_sheets::TaskSheet;
-use timetables::{Seconds, StepCount, strata, timetable};
-
-// The longest sheet that is opened.
-const LONGEST: usize = 65536;
-
-// One byte more, so that a longer sheet is known.
-const MOST: u64 = 65537;
-
-// The bytes of a file, at most 65,537 of them; a missing file counts as empty.
-fn read_sheet(rt: &HostRuntime, name: &str) -> io::Result<Vec<u8>> {
-    let mut bytes = Vec::new(rt.alloc());
-    match fs::open(rt, name) {
-        Ok(file) => {
-            let mut part = file.take(MOST);
-            part.read_to_end(&mut bytes)?;
-            Ok(bytes)
-        }
-        Err(error) => {
-            if error.kind() == ErrorKind::NotFound {
-                Ok(bytes)
-            } else {
-                Err(error)
-            }
-        }
-    }
-}
+use timetables::{Seconds, StepCount, strata, timetable, weights};
 
 fn print_book(rt: &HostRuntime, book: &BookSheet) -> io::Result<()> {
-    let facts = book.facts();
-    let steps = book.steps();
-    println!(rt; "book opened: facts {facts} steps {steps}")
+    println!(rt; "book opened: facts {} steps {}", book.facts(), book.steps())
 }
 
 fn print_task(rt: &HostRuntime, task: &TaskSheet) -> io::Result<()> {
@@ -51,36 +26,13 @@ fn print_task(rt: &HostRuntime, task: &TaskSheet) -> io::Result<()> {
     println!(rt; "task opened: facts {facts} steps {steps} levels {levels} places {total}")
 }
 
-fn print_facts(rt: &HostRuntime, facts: &FactSet) -> io::Result<()> {
-    print!(rt; "accepted: facts")?;
-    for p in 0..1024 {
-        if facts.contains(p) {
-            print!(rt; " {p}")?;
-        }
-    }
-    println!(rt; "")
-}
-
 // Checks the plan of the task by the book.
 fn print_check(rt: &HostRuntime, book: &BookSheet, task: &TaskSheet) -> io::Result<()> {
     let mut facts = FactSet::empty();
     match check(book, task, &mut facts) {
-        Ok(()) => print_facts(rt, &facts),
+        Ok(()) => rt.println(accepted(rt.alloc(), &facts)?),
         Err(fault) => println!(rt; "plan {fault}"),
     }
-}
-
-// The seconds of each place's step, by place; zero past the last place.
-fn weights(book: &BookSheet, card: &Card) -> [Seconds; 256] {
-    let mut weights = [Seconds { count: 0 }; 256];
-    for u in 0..256 {
-        if let Ok((step, _, _)) = card.look(u) {
-            weights[u] = Seconds {
-                count: book.seconds(step),
-            };
-        }
-    }
-    weights
 }
 
 // Each place with its step, its level, its stratum and when it begins at the earliest.
@@ -88,20 +40,31 @@ fn print_places(rt: &HostRuntime, book: &BookSheet, card: &Card) -> io::Result<(
     let mut stratum = [StepCount { count: 0 }; 256];
     let mut begins = [Seconds { count: 0 }; 256];
     let heights = strata(card, &mut stratum);
-    let times = timetable(card, &weights(book, card), &mut begins);
+    let times = timetable(card, &weights(book, card.plan()), &mut begins);
     if let (Ok(height), Ok(end)) = (heights, times) {
-        let height = height.count;
-        let end = end.count;
-        println!(rt; "strata {height} seconds {end}")?;
+        println!(rt; "strata {} seconds {}", height.count, end.count)?;
     }
-    for u in 0..256 {
-        if let Ok((step, level, _)) = card.look(u) {
-            let stratum = stratum[u].count;
-            let at = begins[u].count;
-            println!(rt; "{u} step {step} level {level} stratum {stratum} at {at}")?;
-        }
+    for (u, place) in card.plan().places().iter().enumerate() {
+        let step = place.step;
+        let level = place.level;
+        let stratum = stratum[u].count;
+        let at = begins[u].count;
+        println!(rt; "{u} step {step} level {level} stratum {stratum} at {at}")?;
     }
     Ok(())
+}
+
+// Prints a call at a place, and its answer.
+fn print_call(
+    rt: &HostRuntime,
+    call: &str,
+    place: usize,
+    answer: Result<(), RunFault>,
+) -> io::Result<()> {
+    match answer {
+        Ok(()) => println!(rt; "{call} {place}: granted"),
+        Err(fault) => println!(rt; "{call} {place}: {fault}"),
+    }
 }
 
 // Begins and finishes every place, from the lowest on, and prints each answer.
@@ -112,14 +75,8 @@ fn print_run(
     card: &mut Card,
 ) -> io::Result<()> {
     for u in 0..card.count() {
-        match begin(book, board, card, u) {
-            Ok(()) => println!(rt; "begin {u}: granted")?,
-            Err(fault) => println!(rt; "begin {u}: {fault}")?,
-        }
-        match finish(book, board, card, u) {
-            Ok(()) => println!(rt; "finish {u}: granted")?,
-            Err(fault) => println!(rt; "finish {u}: {fault}")?,
-        }
+        print_call(rt, "begin", u, begin(book, board, card, u))?;
+        print_call(rt, "finish", u, finish(book, board, card, u))?;
     }
     Ok(())
 }
@@ -158,10 +115,10 @@ fn print_sheets(rt: &HostRuntime, book_bytes: &[u8], task_bytes: &[u8]) -> io::R
 fn run(rt: &HostRuntime) -> anyhow::Result<()> {
     let book = read_sheet(rt, "book.bin")?;
     let task = read_sheet(rt, "task.bin")?;
-    if book.len() > LONGEST {
-        println!(rt; "book refused 19")?;
-    } else if task.len() > LONGEST {
-        println!(rt; "task refused 19")?;
+    if let Err(fault) = keeps_length(book.as_slice()) {
+        println!(rt; "book {fault}")?;
+    } else if let Err(fault) = keeps_length(task.as_slice()) {
+        println!(rt; "task {fault}")?;
     } else {
         print_sheets(rt, book.as_slice(), task.as_slice())?;
     }

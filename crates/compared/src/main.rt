@@ -10,22 +10,12 @@ use std::io::Write;
 // The longest listing: 256 places and a first line.
 const LONGEST: usize = 33000;
 
-// What a hexadecimal digit counts; 0 for any other character.
-fn digit(c: u8) -> u8 {
-    match c {
-        b'0'..=b'9' => c - b'0',
-        b'a'..=b'f' => c - b'a' + 10,
-        _ => 0,
+// The bytes of a sheet, written in two hexadecimal digits each; `-` is the empty sheet.
+fn sheet(heap: Global, word: &str) -> anyhow::Result<Vec<u8>> {
+    if word == "-" {
+        return Ok(Vec::new(heap));
     }
-}
-
-// The bytes of a sheet, written in two digits each; `-` is the empty sheet.
-fn sheet(heap: Global, word: &[u8]) -> anyhow::Result<Vec<u8>> {
-    let mut bytes = Vec::new(heap);
-    for i in 0..word.len() / 2 {
-        bytes.push(digit(word[2 * i]) << 4 | digit(word[2 * i + 1]))?;
-    }
-    Ok(bytes)
+    Ok(hex::decode(heap, word)?)
 }
 
 // Prints the listing of a case: the book's sheet, a space, the task's sheet.
@@ -33,8 +23,8 @@ fn print_case(rt: &HostRuntime, line: &str) -> anyhow::Result<()> {
     let Some((book, task)) = line.split_once(' ') else {
         return Err(anyhow!("a line without a space"));
     };
-    let book = sheet(rt.alloc(), book.as_bytes())?;
-    let task = sheet(rt.alloc(), task.as_bytes())?;
+    let book = sheet(rt.alloc(), book)?;
+    let task = sheet(rt.alloc(), task)?;
     let mut out = [0; LONGEST];
     let Ok(length) = list(book.as_slice(), task.as_slice(), &mut out) else {
         return Err(anyhow!("a listing that is too long"));

@@ -1,7 +1,6 @@
 // A crew of two at the rack of 2 loggers and 1 bath: both loggers are put in side by side, and then the bath settles.
 #![tactic(auto)]
 
-use anyhow::anyhow;
 use boards::{BitBoard, Board};
 use books::Book;
 use cards::{Attempt, Card, Event, attempt, issue};
@@ -104,9 +103,7 @@ fn print_call(
 }
 
 fn main(rt: HostRuntime) -> anyhow::Result<()> {
-    let Ok(rack) = Rack::new(2, 1) else {
-        return Err(anyhow!("there is no rack of 2 loggers and 1 bath"));
-    };
+    let rack = Rack::new(2, 1)?;
     let mut task = TaskSheet::new();
     if let Err(fault) = task.open(TASK) {
         println!(rt; "task {fault}")?;

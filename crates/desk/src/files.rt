@@ -1,28 +1,23 @@
 // Reading a sheet and writing one.
 use commands::Output;
+use sheets::LONGEST;
 use std::fs::File;
 use std::io::{ErrorKind, Read, Write};
 use std::{fs, io};
 
 // One byte more than the longest sheet that is opened, so that a longer one is known.
-const MOST: u64 = 65537;
+const MOST: u64 = LONGEST as u64 + 1;
 
 // The bytes of a file, at most 65,537 of them; a missing file counts as empty.
 pub fn read_sheet(rt: &HostRuntime, name: &str) -> io::Result<Vec<u8>> {
     let mut bytes = Vec::new(rt.alloc());
     match fs::open(rt, name) {
         Ok(file) => {
-            let mut part = file.take(MOST);
-            part.read_to_end(&mut bytes)?;
+            file.take(MOST).read_to_end(&mut bytes)?;
             Ok(bytes)
         }
-        Err(error) => {
-            if error.kind() == ErrorKind::NotFound {
-                Ok(bytes)
-            } else {
-                Err(error)
-            }
-        }
+        Err(error) if error.kind() == ErrorKind::NotFound => Ok(bytes),
+        Err(error) => Err(error),
     }
 }
 

@@ -3,6 +3,7 @@
 #![tactic(auto)]
 
 pub mod files;
+pub mod halt;
 pub mod performing;
 pub mod running;
 pub mod sheets_of;

@@ -1,12 +1,11 @@
 // The two sheets of the folder.
 use crate::files::read_sheet;
+use crate::halt::Halt;
 use book_sheets::BookSheet;
-use checks::PlanFault;
+use checks::open_both;
+use sheets::{TooLong, keeps_length};
 use std::io;
 use task_sheets::TaskSheet;
-
-// The longest sheet that is opened.
-const LONGEST: usize = 65536;
 
 // The bytes of both sheets.
 #[derive(Drop)]
@@ -16,9 +15,16 @@ pub struct Sheets {
 }
 
 impl Sheets {
-    // Whether either is too long to be opened.
-    pub fn too_long(&self) -> bool {
-        self.book.len() > LONGEST || self.task.len() > LONGEST
+    // Whether both are short enough to be opened.
+    pub fn keep_length(&self) -> Result<(), TooLong> {
+        keeps_length(self.book.as_slice())?;
+        keeps_length(self.task.as_slice())
+    }
+
+    // Both sheets opened, the book's first; neither where one is too long.
+    pub fn open(&self) -> Result<(BookSheet<'_>, TaskSheet<'_>), Halt> {
+        self.keep_length()?;
+        Ok(open_both(self.book.as_slice(), self.task.as_slice())?)
     }
 }
 
@@ -27,15 +33,4 @@ pub fn read_sheets(rt: &HostRuntime) -> io::Result<Sheets> {
     let book = read_sheet(rt, "book.bin")?;
     let task = read_sheet(rt, "task.bin")?;
     Ok(Sheets { book, task })
-}
-
-// Opens both sheets, the book's first.
-pub fn open_both<'a>(
-    sheets: &'a Sheets,
-    book: &mut BookSheet<'a>,
-    task: &mut TaskSheet<'a>,
-) -> Result<(), PlanFault> {
-    book.open(sheets.book.as_slice())?;
-    task.open(sheets.task.as_slice())?;
-    Ok(())
 }
