@@ -64,16 +64,16 @@ module _ (xs : List ℕ) (ok : Passes (book_verdict xs)) (a row at n m k : ℕ) 
 
   pub lists_found : Found xs at n m k
   lists_found =
-    let f = be16 xs 0 in
-    let ascend : (b i : ℕ) → ((j : ℕ) → j < i → Passes (entry xs f b j)) → Ascends (numbers_at xs b i) = λ b i each. numbers_ascend xs b i (entries_rise xs f b i each) in
-    record {
-    needs = ascend at n (λ j l. up_to_each (entry xs f at) n j l passed.needs_ok);
-    adds = ascend (at + 2 * n) m (λ j l. up_to_each (entry xs f (at + 2 * n)) m j l passed.adds_ok);
-    deletes = ascend (at + 2 * n + 2 * m) k (deleted_entry xs f (at + 2 * n) m (at + 2 * n + 2 * m) k passed.deletes_ok);
-    needs_end = passed.needs_end;
-    adds_end = passed.adds_end;
-    deletes_end = passed.deletes_end;
-  }
+      let f = be16 xs 0 in
+      let ascend : (b i : ℕ) → ((j : ℕ) → j < i → Passes (entry xs f b j)) → Ascends (numbers_at xs b i) = λ b i each. numbers_ascend xs b i (entries_rise xs f b i each) in
+      record {
+        needs = ascend at n (λ j l. up_to_each (entry xs f at) n j l passed.needs_ok);
+        adds = ascend (at + 2 * n) m (λ j l. up_to_each (entry xs f (at + 2 * n)) m j l passed.adds_ok);
+        deletes = ascend (at + 2 * n + 2 * m) k (deleted_entry xs f (at + 2 * n) m (at + 2 * n + 2 * m) k passed.deletes_ok);
+        needs_end = passed.needs_end;
+        adds_end = passed.adds_end;
+        deletes_end = passed.deletes_end;
+      }
 
   step : step_of xs a ≡ record { needs = numbers_at xs at n; adds = numbers_at xs (at + 2 * n) m; deletes = numbers_at xs (at + 2 * n + 2 * m) k; seconds = be32 xs (row + 4) }
   step = rw (begins, en, em, ek, h.place) refl
