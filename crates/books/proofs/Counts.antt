@@ -51,15 +51,7 @@ count_listed P xs h n =
       count_entries xs n,
     )
 
--- a loop's start and step
-pub count_start : (P : ℕ → Bool) → 0 ≡ count P 0
-unfolding count
-count_start P = refl
-
+-- one number more, in the set
 pub count_hit : (P : ℕ → Bool) (n : ℕ) → P n ≡ true → count P (n + 1) ≡ count P n + 1
 unfolding count
 count_hit P n e = rw (add-one n, e) (omega arith)
-
-pub count_miss : (P : ℕ → Bool) (n : ℕ) → P n ≡ false → count P (n + 1) ≡ count P n
-unfolding count
-count_miss P n e = rw (add-one n, e) (omega arith)

@@ -1,9 +1,8 @@
 -- The list of the numbers in a set.
-use Rattle.std.proofs.Common.{◌≡◌, ℕ, zero, suc, ◌+◌, ◌<◌, ◌≤◌, Bool, true, false, cond, ◌&&◌, ◌||◌, eqb, ltb, List, [], ◌∷◌, ◌++◌, length, sym, refl, ap, ◌∙◌, inl, inr, add-one, arith, length-append}
+use Rattle.std.proofs.Common.{◌≡◌, ℕ, zero, suc, ◌+◌, ◌≤◌, Bool, true, false, cond, ◌&&◌, ◌||◌, eqb, ltb, List, [], ◌∷◌, ◌++◌, length, sym, refl, ap, ◌∙◌, inl, inr, add-one, arith, length-append}
 use Rattle.std.proofs.lemmas.Bool.{cases_eq, cases_lt, lt-ltb, le-ltb, eq-eqb, ne_eqb, and_right}
 use Rattle.std.proofs.lemmas.Bool.Decides.{nat_tests}
 use Rattle.std.proofs.lemmas.List.{append-nil}
-use Rattle.facts.specs.Sets.{Next}
 use Rattle.books.specs.Book.{Facts, count}
 use Rattle.books.specs.Listed.{listed, members}
 
@@ -30,17 +29,6 @@ members_hit P n e = rw (add-one n, e)
 
 pub members_miss : (P : Facts) (n : ℕ) → P n ≡ false → members P (n + 1) ≡ members P n
 members_miss P n e = rw (add-one n, e) (append-nil (members P n))
-
--- a step of a loop over the numbers of a set: from a place on, no number up to another place, or the next
-pub members_none : (P : Facts) (from n : ℕ) → from ≤ n → ((q : ℕ) → from ≤ q → q < n → P q ≡ false) → members P n ≡ members P from
-members_none P from zero l none = let e : from ≡ 0 = omega arith in rw e refl
-members_none P from (suc n) l none = elim (cases_lt n from) [
-  | inl h ↦ let e : from ≡ suc n = omega arith in rw e refl
-  | inr h ↦ rw (none n h (omega arith)) (append-nil (members P n) ∙ members_none P from n h (λ q a b. none q a (omega arith)))
-]
-
-pub members_next : (P : Facts) (from n : ℕ) → Next P from n → members P (n + 1) ≡ members P from ++ (n ∷ [])
-members_next P from n next = members_hit P n next.here ∙ ap (λ l. l ++ (n ∷ [])) (members_none P from n next.from next.before)
 
 pub count_up : (P : Facts) (n k : ℕ) → n ≤ k → count P n ≤ count P k
 unfolding count
