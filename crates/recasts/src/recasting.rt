@@ -59,6 +59,7 @@ pub fn recast<B: Book>(book: &B, task: &TaskSheet, out: &mut [u8]) -> Result<usi
 }
 
 // A recast has one answer: no other one fits the definition.
+#[tactic(auto, using(crate::proofs::Answering::one_recast_answer))]
 pub fn no_recast_has_two_answers()
     ensures { OneRecastAnswer }
 {}

@@ -18,6 +18,7 @@ fn one_step_each(card: &Card, begins: &mut [StepCount]) -> Result<StepCount, Too
 }
 
 // Writes the stratum of each place of the card, its begin where every place has weight 1, and answers the number of strata.
+#[tactic(auto, using(crate::proofs::Layers::stratified, crate::proofs::Upward::upward))]
 pub fn strata(card: &Card, begins: &mut [StepCount]) -> Result<StepCount, TooShort>
     ensures { Stratified (size_of card.now) (precedes_of card.now) begins.old begins.new result }
 {
