@@ -1,5 +1,6 @@
 -- What a book sheet answers is what its content means.
-use Rattle.std.proofs.Common.{◌≡◌, ℕ, zero, suc, ◌+◌, ◌*◌, ◌<◌, ◌≤◌, List, length, get_or, sym, refl, ap, ◌∙◌, arith}
+use Rattle.std.proofs.Common.{◌≡◌, ℕ, zero, suc, ◌+◌, ◌*◌, ◌<◌, ◌≤◌, List, length, get_or, Option, Some, None, is_some, IfSome, MatchOption, ltb, sym, refl, ap, ◌∙◌, subst, arith}
+use Rattle.std.proofs.lemmas.Bool.{ltb-true, ltb-false}
 use Rattle.std.proofs.lemmas.List.{get_or_past}
 use Rattle.books.specs.Listed.{listed}
 use Rattle.sheets.specs.Fields.{be16, be32}
@@ -28,7 +29,7 @@ pub step_past : (xs : List ℕ) (a : ℕ) → be16 xs 2 ≤ a → get_or (conten
 step_past xs a l = get_or_past (content xs).steps a empty_step (omega (arith, length_steps_from xs 0 (be16 xs 2)))
 
 -- a row is found where it stands
-pub row_found : (xs : List ℕ) → Passes (book_verdict xs) → (a : ℕ) → a < be16 xs 2 → Row xs a (row_at a)
+row_found : (xs : List ℕ) → Passes (book_verdict xs) → (a : ℕ) → a < be16 xs 2 → Row xs a (row_at a)
 row_found xs ok a l = record {
   there = l;
   place = refl;
@@ -36,8 +37,13 @@ row_found xs ok a l = record {
   seconds = ap (λ s. s.seconds) (sym (step_is xs a l));
 }
 
-pub no_row_found : (xs : List ℕ) (a : ℕ) → be16 xs 2 ≤ a → NoRow xs a
+no_row_found : (xs : List ℕ) (a : ℕ) → be16 xs 2 ≤ a → NoRow xs a
 no_row_found xs a l = record { past = l; seconds = ap (λ s. s.seconds) (sym (step_past xs a l)) }
+
+pub row_answered : (xs : List ℕ) → Passes (book_verdict xs) → (a : ℕ) (r : Option ℕ) → is_some r ≡ ltb a (be16 xs 2) → IfSome r (λ at. at ≡ row_at a)
+    → MatchOption r (NoRow xs a) (Row xs a)
+row_answered xs ok a None e h = no_row_found xs a (ltb-false a (be16 xs 2) (sym e))
+row_answered xs ok a (Some at) e h = subst (Row xs a) (sym h) (row_found xs ok a (ltb-true a (be16 xs 2) (sym e)))
 
 -- where there is no step, its lists are empty
 pub no_lists : (xs : List ℕ) (a : ℕ) → be16 xs 2 ≤ a → NoLists xs a

@@ -47,11 +47,7 @@ impl<'a> BookSheet<'a> {
     fn row(&self, a: usize) -> Option<usize>
         ensures { MatchOption result (NoRow self.now.bytes.now a) (λ at. Row self.now.bytes.now a at) }
     {
-        if a < get::<u16>(self.bytes, 2) as usize {
-            Some(12 + 11 * a)
-        } else {
-            None
-        }
+        (a < get::<u16>(self.bytes, 2) as usize).then(|| 12 + 11 * a)
     }
 
     // The lists of step `a`, if there is such a step.

@@ -1,9 +1,10 @@
-use Rattle.std.proofs.Common.{arith}
-use Rattle.book_sheets.proofs.Questions.{row_found, no_row_found}
+use Rattle.std.proofs.Common.{◌≡◌, ◌+◌, ◌*◌, ltb, IfSome, ap, ◌∙◌, rules}
+use Rattle.book_sheets.proofs.Questions.{row_answered}
 use Rattle.book_sheets.proofs.book_sheet.BookSheet.row.Goals as goal
 
-pub returns-then-a-get : goal.returns-then-a-get
-returns-then-a-get c = row_found c.args.self.now.bytes.now c.args.self.now.ok c.args.a (omega arith)
-
-pub returns-else-a-get : goal.returns-else-a-get
-returns-else-a-get c = no_row_found c.args.self.now.bytes.now c.args.a (omega arith)
+pub returns : goal.returns
+returns c =
+    let a = c.args.a in
+    let s = c.args.self.now in
+    let place : IfSome c.then.result (λ at. at ≡ 12 + 11 * a) = search rules in
+    row_answered s.bytes.now s.ok a c.then.result (c.then.ensures.variant ∙ ap (ltb a) c.get.ensures) place
