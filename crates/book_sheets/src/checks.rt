@@ -47,6 +47,7 @@ fn check_row(bytes: &[u8], at: usize) -> Result<(), Refused>
 }
 
 // Whether the rows of so many steps are whole and keep their limits.
+#[tactic(auto, using(sheets::proofs::Verdicts::up_to_stops))]
 fn check_rows(bytes: &[u8], steps: u16) -> Result<(), Refused>
     requires { 12 ≤ length bytes.now }
     ensures { Gives result (rows bytes.now steps) (λ _. row_at steps ≤ length bytes.now) }
@@ -79,6 +80,7 @@ fn check_deleted(
 }
 
 // Whether the list of `n` deletes at `at` is right.
+#[tactic(auto, using(sheets::proofs::Verdicts::up_to_stops))]
 fn check_deletes(
     bytes: &[u8],
     facts: u16,
@@ -122,6 +124,7 @@ fn check_step(bytes: &[u8], facts: u16, a: u16, at: usize) -> Result<usize, Refu
 }
 
 // Where the lists of all steps end, if they are right.
+#[tactic(auto, using(sheets::proofs::Verdicts::up_to_stops))]
 fn check_steps(bytes: &[u8], facts: u16, steps: u16) -> Result<usize, Refused>
     requires steps_in_bounds { row_at steps ≤ length bytes.now }
     requires facts_value { facts ≡ be16 bytes.now 0 }

@@ -31,6 +31,7 @@ pub fn check_entry(bytes: &[u8], bound: u16, at: usize, j: usize) -> Result<u16,
 }
 
 // The list of `n` numbers below `bound` at `at`, if it is right.
+#[tactic(auto, using(crate::proofs::Verdicts::up_to_stops))]
 pub fn check_list<'a>(
     bytes: &'a [u8],
     bound: u16,
