@@ -13,9 +13,6 @@ Bytes xs = (i : ℕ) → get_or xs i 0 < 256
 abbrev pub Stands : List ℕ → ℕ → List ℕ → ℕ → Type 0
 Stands xs i ys j = drop i xs ≡ ys ++ drop j xs
 
-pub stands_none : (xs : List ℕ) (i : ℕ) → Stands xs i [] i
-stands_none xs i = refl
-
 -- all bytes stand from the first to the last
 pub stands_whole : (xs : List ℕ) → Stands xs 0 xs (length xs)
 stands_whole xs = sym (append-nil xs) ∙ ap (λ r. xs ++ r) (sym (drop-length xs))

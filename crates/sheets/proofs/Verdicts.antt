@@ -46,10 +46,6 @@ pub up_to_pass : (v : ℕ → Verdict) (n : ℕ) → ((i : ℕ) → i < n → Pa
 up_to_pass v zero h = refl
 up_to_pass v (suc n) h = then_pass (up_to v n) (v n) (up_to_pass v n (λ i l. h i (omega arith))) (h n (omega arith))
 
--- one part more that is fine
-pub up_to_more : (v : ℕ → Verdict) (i : ℕ) → up_to v i ≡ fine → v i ≡ fine → up_to v (i + 1) ≡ fine
-up_to_more v i h k = rw (add-one, h, k)
-
 -- the first part that is refused gives the whole its refusal
 pub up_to_stops : (v : ℕ → Verdict) (i n : ℕ) (e : Refused) → i < n → up_to v i ≡ fine → v i ≡ Err e → up_to v n ≡ Err e
 up_to_stops v i zero e l h k = absurd (omega arith)
@@ -64,9 +60,6 @@ field_room xs at w h = leb-true (at + w) (length xs) (must_true (leb (at + w) (l
 
 pub field_pass : (xs : List ℕ) (at w : ℕ) → at + w ≤ length xs → Passes (field xs at w)
 field_pass xs at w h = must_pass (leb (at + w) (length xs)) Short (length xs) (le-leb (at + w) (length xs) h)
-
-pub limit_kept : (n most at : ℕ) → Passes (limit n most at) → n ≤ most
-limit_kept n most at h = leb-true n most (must_true (leb n most) OverLimit at h)
 
 pub limit_pass : (n most at : ℕ) → n ≤ most → Passes (limit n most at)
 limit_pass n most at h = must_pass (leb n most) OverLimit at (le-leb n most h)
