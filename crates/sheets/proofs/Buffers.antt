@@ -1,6 +1,6 @@
 -- Bytes written one after the other into a buffer.
-use Rattle.std.proofs.Common.{◌≡◌, ℕ, ◌+◌, ◌-◌, ◌<◌, ◌≤◌, List, [], ◌++◌, length, get_or, take, drop, sym, ap, ◌∙◌, append_assoc, arith, length-append}
-use Rattle.std.proofs.lemmas.List.{take-append-drop, take_at, drop-drop, drop_at, length-take-le, length-drop, get_or-take, get_or_append_left, get_or-append-add, get_or-drop}
+use Rattle.std.proofs.Common.{◌≡◌, ℕ, ◌+◌, ◌≤◌, List, [], ◌++◌, length, take, drop, sym, ap, ◌∙◌, append_assoc, arith, length-append}
+use Rattle.std.proofs.lemmas.List.{take-append-drop, take_at, drop-drop, drop_at, length-take-le}
 use Rattle.sheets.specs.Writing.{written, Wrote}
 
 -- nothing written

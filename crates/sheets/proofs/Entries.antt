@@ -1,6 +1,6 @@
 -- Lists of ascending numbers: what passes ascends, and what ascends passes.
 use Rattle.std.proofs.Common.{◌≡◌, ℕ, zero, suc, ◌+◌, ◌-◌, ◌*◌, ◌<◌, ◌≤◌, true, false, ◌||◌, eqb, ltb, ◌⊎◌, List, length, get_or, sym, refl, ap, ◌∙◌, subst, inl, inr, arith}
-use Rattle.std.proofs.lemmas.Bool.{cases_eq, cases_lt, ltb-true, lt-ltb, eqb-true, eq-eqb, ne_eqb, or_cases, or_left, or_right, or_from, both_ways}
+use Rattle.std.proofs.lemmas.Bool.{cases_eq, ltb-true, lt-ltb, eqb-true, eq-eqb, ne_eqb, or_cases, or_left, or_right, or_from, both_ways}
 use Rattle.sheets.specs.declared.fault.Refusal.TheVariants.{OutOfRange, NotAbove}
 use Rattle.sheets.specs.Verdicts.{must}
 use Rattle.sheets.specs.Fields.{be16, field, twos}

@@ -1,5 +1,5 @@
 -- What passes, part by part.
-use Rattle.std.proofs.Common.{◌≡◌, ℕ, zero, suc, ◌+◌, ◌<◌, ◌≤◌, Bool, true, false, eqb, leb, List, length, is_ok, Ok, Err, refl, inl, inr, add-one, arith}
+use Rattle.std.proofs.Common.{◌≡◌, ℕ, zero, suc, ◌+◌, ◌<◌, ◌≤◌, Bool, true, false, eqb, leb, List, length, is_ok, Ok, Err, refl, inl, inr, arith}
 use Rattle.std.proofs.lemmas.Bool.{cases_eq, leb-true, le-leb, eqb-true, eq-eqb, both_ways}
 use Rattle.sheets.specs.declared.fault.Refusal.{Refusal}
 use Rattle.sheets.specs.declared.fault.Refusal.TheVariants.{Short, OverLimit, Misplaced}
