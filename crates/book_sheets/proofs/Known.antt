@@ -4,9 +4,9 @@ use Rattle.std.proofs.lemmas.Bool.{leb-true}
 use Rattle.sheets.specs.declared.fault.Refusal.TheVariants.{Trailing}
 use Rattle.sheets.specs.Verdicts.{Verdict, must, ◌then◌, up_to}
 use Rattle.sheets.specs.Fields.{be16, be32, field, limit, offset}
-use Rattle.sheets.specs.Lists.{entry, entries, Rising}
+use Rattle.sheets.specs.Lists.{entry, entries}
 use Rattle.sheets.proofs.Verdicts.{Passes, then_left, then_right, must_true, up_to_each, field_room, offset_is}
-use Rattle.sheets.proofs.Entries.{entry_room, entries_room, entries_rise}
+use Rattle.sheets.proofs.Entries.{entry_room, entries_room}
 use Rattle.book_sheets.specs.Layout.{header, row, row_at, rows, deleted, lists, need_count, add_count, delete_count, lists_at, step_lists, book_verdict}
 
 -- a list of deletes that passes is a list that passes

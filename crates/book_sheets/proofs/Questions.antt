@@ -10,7 +10,7 @@ use Rattle.sheets.proofs.Verdicts.{Passes, up_to_each}
 use Rattle.sheets.proofs.Entries.{entries_rise, numbers_ascend}
 use Rattle.book_sheets.specs.declared.step_lists.StepLists.{StepLists}
 use Rattle.book_sheets.specs.Layout.{row_at, lists_at, book_verdict}
-use Rattle.book_sheets.specs.Content.{Step, empty_step, step_of, steps_from, content, model_of}
+use Rattle.book_sheets.specs.Content.{empty_step, step_of, steps_from, content}
 use Rattle.book_sheets.specs.Reading.{Row, NoRow, Lists, NoLists}
 use Rattle.book_sheets.proofs.Known.{Passed, known, deleted_entry}
 use Rattle.book_sheets.proofs.Lawful.{length_steps_from}
