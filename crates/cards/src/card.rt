@@ -13,7 +13,7 @@ mod looks;
 #[derive(Drop)]
 pub struct Card {
     plan: Arrangement,
-    // (a) beside the plan's places in fixed memory: a place's state changes, the plan doesn't
+    // In fixed memory beside the plan's places: a place's state changes, the plan doesn't.
     states: [State; 256],
     ghost sized: { length states ≡ 256 },
     ghost sound: { (u v : ℕ) → (marked plan.before u v ≡ true) × (begun (slice_index_or states v Waiting) ≡ true) → finished (slice_index_or states u Waiting) ≡ true },

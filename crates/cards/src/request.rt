@@ -9,7 +9,7 @@ pub enum Request {
 }
 
 // What a crew is told: that its call is granted, how the place stands, or why not.
-// (d) no Result of two good answers: a reply is printed as a line of its own, which only a type of this crate can be
+// No Result of two good answers: a reply is printed as a line of its own, which only a type of this crate can be.
 #[derive(Clone, Copy, PartialEq, Eq, Debug)]
 pub enum Reply {
     Granted,

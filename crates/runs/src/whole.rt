@@ -33,7 +33,7 @@ fn start<D: Board>(board: &mut D, card: &mut Card, fresh: Card, task: &TaskSheet
 
 // Issues the task, carries the requests out in turn and records each reply, writes the timetable of the places by their
 // weights, and writes the sheet of the recast task. Everything is tested first: refused, nothing changes.
-// (d) the buffers are lent one by one: a struct of them would be filled by each caller for this one call
+// The buffers are lent one by one: a struct of them would be filled by each caller for this one call.
 pub fn carry_out<B: Book, D: Board, M: Measure + Copy>(
     book: &B,
     task: &TaskSheet,

@@ -1,6 +1,6 @@
 // How a place is begun, finished and put back, on any book, board and card.
-// (d) the three are lent to each call by themselves: the crew looks at the board between two calls, and no clause says whose buffer
-// is lent, as each of a Run must
+// The three are lent to each call by themselves: the crew looks at the board between two calls, and no clause says whose
+// board and card are lent, as each clause of a `Run` must.
 ghost use Rattle.std.specs.Prelude.{◌≡◌, ℕ, not, ◌&&◌, ◌||◌, OnErr, ◌≢◌, nat_lt};
 ghost use Rattle.cards.specs.Cards.{Called};
 ghost use Rattle.cards.specs.declared.state.Event.TheVariants.{Begin, Finish, PutBack};
