@@ -83,6 +83,7 @@ pub(crate) fn list_of<'a>(task: &TaskSheet<'a>, which: Part) -> &'a [u8]
     ensures few { length result.now ≤ 2050 }
     ensures says { part_numbers result.now ≡ list_of (task_of task.now) which }
 {
+    // By map_or the check would leave open that the list is whole.
     match task.item(which) {
         Some(item) => item.bytes(),
         None => &[0, 0],
