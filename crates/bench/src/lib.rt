@@ -53,7 +53,8 @@ pub extern "C" fn bench_recast(book: &[u8], task: &[u8], out: &mut [u8]) -> u64
 }
 
 // Issues the task on an empty board, a bit board where `tally` is 0 and else a tally board, and carries the script out:
-// of each request the reply and the facts on the board after it are written.
+// of each request the reply and the facts on the board after it are written. The board is chosen by a number, as programs
+// in other languages can say it.
 #[unsafe(no_mangle)]
 pub extern "C" fn bench_run(
     book: &[u8],

@@ -17,7 +17,8 @@ fn clear_all<D: Board>(board: &mut D)
     }
 }
 
-// Clears the facts of the set.
+// Clears the facts of the set. This and the next stay two loops of one call: one loop over a closure that changes the
+// board would have to say once more what the call does.
 fn clear_each<D: Board>(board: &mut D, facts: &FactSet)
     ensures span { D.Board.limit board.new ≡ D.Board.limit board.old }
     ensures holds { (q : ℕ) → D.Board.set board.new q ≡ (D.Board.set board.old q && not (holds facts.now.words q)) }

@@ -200,9 +200,7 @@ mod tests {
         let mut sheet = [0; 523];
         let front =
             *b"\x00\xfa\x00\x01\x00\x00\x00\x0c\x00\x00\x00\x17\x00\x00\x00\x17\x00\x00\x00\x01\xfa\x00\x00";
-        for i in 0..23 {
-            sheet[i] = front[i];
-        }
+        sheet[..23].copy_from_slice(&front);
         for p in 0..250 {
             sheet[24 + 2 * p as usize] = p;
         }

@@ -1,4 +1,4 @@
-// The check of a plan from the bytes of its two sheets.
+// The check of a plan from the bytes of its two sheets. These stay two slices: programs in other languages lend them so.
 ghost use Rattle.std.specs.Prelude.{◌≡◌, IfOk, MatchResult};
 ghost use Rattle.checks.specs.Checked.{bare};
 ghost use Rattle.checks.specs.Bytes.{Opens, Says, BytesChecked, BytesEndIn};

@@ -92,10 +92,7 @@ fn obey(rt: &HostRuntime, words: &[String]) -> Result<(), Halt> {
 
 // Does what the words ask for, and tells a refusal.
 pub fn perform(rt: &HostRuntime, words: &[String]) -> anyhow::Result<()> {
-    match obey(rt, words) {
-        Ok(()) => Ok(()),
-        Err(halt) => tell(rt, halt),
-    }
+    obey(rt, words).or_else(|halt| tell(rt, halt))
 }
 
 // Does what the words behind the program's name ask for, and tells an error.

@@ -10,7 +10,8 @@ use scripts::script;
 use std::io::Read;
 use timetables::{Seconds, weights};
 
-// Opens both sheets, carries the requests out on their plan, and prints the replies, a line for each.
+// Opens both sheets, carries the requests out on their plan, and prints the replies, a line for each. What is bounded by 256
+// places is in fixed memory, the replies are not.
 fn carry(rt: &HostRuntime, sheets: &Sheets, requests: &[Request]) -> Result<(), Halt> {
     let (book, task) = sheets.open()?;
     let mut places = Arrangement::new();

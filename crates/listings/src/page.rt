@@ -8,7 +8,7 @@ use timetables::{Seconds, StepCount};
 
 // What is listed of an accepted plan: its places, how many levels and strata it has, when it ends, and by place the
 // strata and the begins.
-// Two arrays side by side: each is the result slice that a timetable is lent (a binding form).
+// Two arrays side by side, in fixed memory: each is lent to one timetable, which writes it whole.
 #[derive(Drop)]
 pub(crate) struct Page {
     pub(crate) plan: Arrangement,

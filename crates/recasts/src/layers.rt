@@ -5,7 +5,7 @@ use timetables::StepCount;
 
 mod writing;
 
-// The places of a card by stratum: the stratum of each place, and the number of strata.
+// The places of a card by stratum: the stratum of each place, and the number of strata, which is no length of the slice.
 #[derive(Clone, Copy)]
 pub(crate) struct Layers<'a> {
     pub(crate) card: &'a Card,

@@ -5,6 +5,9 @@ ghost use Rattle.sheets.specs.Verdicts.{Gives};
 use crate::fault::{Refusal, Refused};
 use crate::field::Field;
 
+// The bytes of a sheet and a place in it stay two parameters: a refusal names its byte in the sheet, so each reader is told
+// where it reads, and a struct of the two would hide it.
+
 // Whether a field of `width` bytes at `at` stands whole in the sheet.
 pub fn stands(bytes: &[u8], at: usize, width: usize) -> Result<(), Refused>
     ensures { Gives result (field bytes.now at width) (λ _. at + width ≤ length bytes.now) }

@@ -3,7 +3,8 @@ ghost use Rattle.task_sheets.specs.Layout.{fits};
 
 mod turns;
 
-// The levels of a task sheet, visited in turn where they lie in it.
+// The levels of a task sheet, visited in turn where they lie in it. The numbers are a place in the sheet and how many
+// levels are left, no length of the bytes.
 #[derive(Drop)]
 pub struct Levels<'a> {
     bytes: &'a [u8],

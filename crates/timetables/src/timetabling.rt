@@ -1,4 +1,4 @@
-// The timetable, once for every measure.
+// The timetable, once for every measure. Weights and begins are lent slices, gone through by the numbers of the places.
 ghost use Rattle.std.specs.Prelude.{◌≡◌, ◌<◌, ◌≤◌, length, if◌then◌else◌};
 ghost use Rattle.cards.specs.Cards.{size_of, precedes_of};
 ghost use Rattle.timetables.specs.Timetable.{greater_of, Greatest, sum, by_place, OnlyOne, Written, Timetabled};

@@ -8,7 +8,8 @@ use crate::count::Seconds;
 use books::Book;
 use checks::Arrangement;
 
-// The seconds of each place's step, by place, and zero past the last place.
+// The seconds of each place's step, by place, and zero past the last place. A loop by number: made by `array::from_fn` the
+// weights were tried, and what each is stayed open.
 pub fn weights<B: Book>(book: &B, plan: &Arrangement) -> [Seconds; 256]
     ensures sized { length result ≡ 256 }
     ensures weighed { (v : ℕ) → v < plan.now.count → (by_place second_scale result v).count ≡ (B.Book.model book.now).seconds (slice_index_or plan.now.places v blank).step }

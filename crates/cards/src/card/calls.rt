@@ -51,7 +51,8 @@ pub fn attempt<B: Book, D: Board>(
     Ok(())
 }
 
-// Takes a waiting place in hand, where every preceding place is finished.
+// Takes a waiting place in hand, where every preceding place is finished. This and the next two stay three calls: each
+// promises what its own event leaves, the board of a begin and of a put back too.
 pub fn begin<B: Book, D: Board>(
     book: &B,
     board: &mut D,
