@@ -1,8 +1,8 @@
 -- Text put piece by piece.
-use Rattle.std.proofs.Common.{◌≡◌, ℕ, ◌++◌, List, [], length, sym, refl, ap, ◌∙◌, subst, arith, length-append}
+use Rattle.std.proofs.Common.{◌≡◌, ℕ, ◌++◌, List, length, ap, ◌∙◌, subst, arith, length-append}
 use Rattle.sheets.specs.declared.writer.Writer.{Writer}
 use Rattle.sheets.specs.Writing.{written}
-use Rattle.sheets.proofs.Buffers.{written_on, written_none}
+use Rattle.sheets.proofs.Buffers.{written_on}
 use Rattle.decimals.specs.Texts.{Puts, PutsText}
 
 -- what is put behind what was put is put with it at once
