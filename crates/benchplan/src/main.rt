@@ -15,7 +15,11 @@ use task_sheets::TaskSheet;
 use timetables::{Seconds, StepCount, strata, timetable, weights};
 
 fn print_book(rt: &HostRuntime, book: &BookSheet) -> io::Result<()> {
-    println!(rt; "book opened: facts {} steps {}", book.facts(), book.steps())
+    println!(rt;
+        "book opened: facts {} steps {}",
+        book.facts(),
+        book.steps()
+    )
 }
 
 fn print_task(rt: &HostRuntime, task: &TaskSheet) -> io::Result<()> {
