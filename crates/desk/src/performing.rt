@@ -16,9 +16,11 @@ use std::alloc::Global;
 use std::env;
 use std::io::Write;
 
-// What is written into a buffer as long as it needs; an empty buffer is lent first, and the length named for it is taken.
+// What is written into a buffer as long as it needs; an empty buffer is lent first, and the length named for it is taken. A
+// second write that fails is an error of the program, and no refusal.
 fn filled<F: FnMut(&mut [u8]) -> Result<usize, RunFault>>(
     heap: Global,
+    what: &str,
     mut write: F,
 ) -> Result<Vec<u8>, Halt>
     requires { F.IsAlwaysCallable write }
@@ -28,15 +30,17 @@ fn filled<F: FnMut(&mut [u8]) -> Result<usize, RunFault>>(
         answer => answer?,
     };
     let mut bytes = vec![in heap; 0u8; needed]?;
-    write(bytes.as_mut_slice())?;
-    Ok(bytes)
+    match write(bytes.as_mut_slice()) {
+        Ok(_) => Ok(bytes),
+        Err(_) => Err(Halt::Failed(anyhow!("the {what} has another length than it said"))),
+    }
 }
 
 // Prints the listing of both sheets, and nothing else.
 fn print_listing(rt: &HostRuntime, sheets: &Sheets) -> Result<(), Halt> {
     let book = sheets.book.as_slice();
     let task = sheets.task.as_slice();
-    let text = filled(rt.alloc(), |out| Ok(list(book, task, out)?))?;
+    let text = filled(rt.alloc(), "listing", |out| Ok(list(book, task, out)?))?;
     Ok(rt.stdout().write_all(text.as_slice())?)
 }
 
@@ -56,14 +60,14 @@ fn write_rack(
     output: Output<'_>,
 ) -> Result<(), Halt> {
     let rack = Rack::new(loggers, baths)?;
-    let sheet = filled(rt.alloc(), |out| Ok(write_book(&rack, out)?))?;
+    let sheet = filled(rt.alloc(), "sheet", |out| Ok(write_book(&rack, out)?))?;
     Ok(write_sheet(rt, output, sheet.as_slice())?)
 }
 
 // Writes the sheet of the recast plan.
 fn write_recast(rt: &HostRuntime, sheets: &Sheets, output: Output<'_>) -> Result<(), Halt> {
     let (book, task) = sheets.open()?;
-    let sheet = filled(rt.alloc(), |out| recast(&book, &task, out))?;
+    let sheet = filled(rt.alloc(), "sheet", |out| recast(&book, &task, out))?;
     Ok(write_sheet(rt, output, sheet.as_slice())?)
 }
 
