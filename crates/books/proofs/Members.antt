@@ -1,10 +1,11 @@
 -- The list of the numbers in a set.
-use Rattle.std.proofs.Common.{◌≡◌, ℕ, zero, suc, ◌+◌, ◌≤◌, Bool, true, false, cond, ◌&&◌, ◌||◌, eqb, ltb, List, [], ◌∷◌, ◌++◌, length, sym, refl, ap, ◌∙◌, inl, inr, add-one, arith, length-append}
+use Rattle.std.proofs.Common.{◌≡◌, ℕ, zero, suc, ◌+◌, ◌<◌, ◌≤◌, Bool, true, false, cond, ◌&&◌, ◌||◌, eqb, ltb, List, [], ◌∷◌, ◌++◌, length, sym, refl, ap, ◌∙◌, inl, inr, add-one, arith, length-append}
 use Rattle.std.proofs.lemmas.Bool.{cases_eq, cases_lt, lt-ltb, le-ltb, eq-eqb, ne_eqb, and_right}
 use Rattle.std.proofs.lemmas.Bool.Decides.{nat_tests}
 use Rattle.std.proofs.lemmas.List.{append-nil}
-use Rattle.books.specs.Book.{Facts, count}
+use Rattle.books.specs.Book.{Facts, count, StepSets}
 use Rattle.books.specs.Listed.{listed, members}
+use Rattle.books.proofs.Counts.{count_hit}
 
 pub and_true : (s t : Bool) → t ≡ true → (s && t) ≡ s
 and_true true t h = h
@@ -71,3 +72,11 @@ listed_members P (suc n) p =
       | inl same ↦ rw same (at_last (P n) (ltb n n) (eqb n n) (le-ltb n n (omega arith)) (eq-eqb n n refl) ∙ sym (and_true (P n) (ltb n (suc n)) (lt-ltb n (suc n) (omega arith))))
       | inr other ↦ elsewhere (P p) (P n) (ltb p n) (eqb p n) (ltb p (suc n)) (ne_eqb p n other) (ltb_same p n other)
     ]
+
+-- one fact more of a step's set is among at most 250
+pub few_more : {f n : ℕ} {sets : ℕ → Facts} → StepSets f n sets → (a p : ℕ) → p < f → sets a p ≡ true → count (sets a) p + 1 ≤ 250
+few_more {f} {n} {sets} h a p l e =
+    let few = h.few a in
+    let up = count_up (sets a) (p + 1) f (omega arith) in
+    let hit = count_hit (sets a) p e in
+    omega arith

@@ -20,9 +20,28 @@ pub record Agree (n : ℕ) (o o' : Places) : Type 0 where
   pub step : (u : ℕ) → u < n → o'.step u ≡ o.step u
   pub level : (u : ℕ) → u < n → o'.level u ≡ o.level u
 
+pub stands_none : (o : Places) (n i : ℕ) → Stands o n i []
+stands_none o n i = record { step = λ k l. absurd (omega arith); level = λ k l. absurd (omega arith) }
+
 pub stands_kept : (o o' : Places) (n i : ℕ) (bs : List ℕ) → Agree (n + length bs) o o' → Stands o n i bs → Stands o' n i bs
 stands_kept o o' n i bs g s =
     record { step = λ k l. g.step (n + k) (omega arith) ∙ s.step k l; level = λ k l. g.level (n + k) (omega arith) ∙ s.level k l }
+
+-- one more step at the end
+pub stands_more : (o : Places) (n i : ℕ) (bs : List ℕ) (a : ℕ) → Stands o n i bs → o.step (n + length bs) ≡ a → o.level (n + length bs) ≡ i
+    → Stands o n i (bs ++ a ∷ [])
+stands_more o n i bs a s e d = record {
+  step = λ k l. elim (cases_lt k (length bs)) [
+    | inl j ↦ s.step k j ∙ sym (get_or_append_left bs (a ∷ []) 0 k j)
+    | inr j ↦ (let q : k ≡ length bs = omega (arith, length-append bs (a ∷ [])) in
+        let w : length bs + 0 ≡ length bs = omega arith in
+        subst (λ x. o.step (n + x) ≡ get_or (bs ++ a ∷ []) x 0) (sym q) (e ∙ sym (subst (λ x. get_or (bs ++ a ∷ []) x 0 ≡ a) w (get_or-append-add bs (a ∷ []) 0 0))))
+  ];
+  level = λ k l. elim (cases_lt k (length bs)) [
+    | inl j ↦ s.level k j
+    | inr j ↦ (let q : k ≡ length bs = omega (arith, length-append bs (a ∷ [])) in subst (λ x. o.level (n + x) ≡ i) (sym q) d)
+  ];
+}
 
 -- the place n + k
 at_step : (o : Places) (n i : ℕ) (bs : List ℕ) → Stands o n i bs → (u : ℕ) → n ≤ u → u < n + length bs → o.step u ≡ get_or bs (u - n) 0
@@ -126,6 +145,10 @@ unfolding AlikeFrom
 likeness m plan o o' a b =
     let t = alike_from m o o' 0 0 plan a b in
     record { size = t.0; step = λ u k. (t.1 u (omega arith) k).0; level = λ u k. (t.1 u (omega arith) k).1 }
+
+-- no levels yet
+pub arranged_none : (m : Model) (o : Places) → o.size ≡ 0 → Arranged m [] o
+arranged_none m o e = e
 
 -- one more level at the end
 module _ (m : Model) (o o' : Places) (agree : Agree o.size o o') (xs bs : List ℕ) (picked : Picked m xs bs) (size : o'.size ≡ o.size + length bs) where

@@ -43,3 +43,17 @@ module _ (m : Model) (o : Places) (u v : ℕ) where
   pub not_back : o.level v < o.level u → Precedes m o u v → ⊥
   not_back l (inl s) = omega (arith, s.0)
   not_back l (inr s) = omega (arith, s.0)
+
+  -- in one level
+  pub decides_beside : (back : Bool) → o.level u ≡ o.level v → (u ≡ v → ⊥) → Decides back (Authorizes m (o.step v) (o.step u))
+      → Decides (not back) (Precedes m o u v)
+  decides_beside back e n f =
+      Decides-like (not back) (λ h. inl (e, n, h)) (λ q. elim q [ inl s ↦ s.2 | inr s ↦ absurd (omega (arith, s.0)) ]) (Decides-not back f)
+
+  -- from an earlier level
+  pub decides_across : (forth back feeds : Bool) → o.level u < o.level v → Decides forth (Authorizes m (o.step u) (o.step v))
+      → Decides back (Authorizes m (o.step v) (o.step u)) → Decides feeds (Feeds m (o.step u) (o.step v))
+      → Decides (not forth || (not back || feeds)) (Precedes m o u v)
+  decides_across forth back feeds l f g h =
+      Decides-like (not forth || (not back || feeds)) (λ s. inr (l, s)) (λ q. elim q [ inl s ↦ absurd (omega (arith, s.0)) | inr s ↦ s.1 ])
+      (Decides-or (not forth) (not back || feeds) (Decides-not forth f) (Decides-or (not back) feeds (Decides-not back g) h))

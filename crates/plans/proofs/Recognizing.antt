@@ -1,5 +1,6 @@
 -- Recognition level by level: level i passes from the final facts of the levels before it.
-use Rattle.std.proofs.Common.{◌≡◌, ℕ, zero, suc, ◌<◌, List, [], ◌∷◌, ◌++◌, length, get_or, take, refl, arith}
+use Rattle.std.proofs.Common.{◌≡◌, ℕ, zero, suc, ◌+◌, ◌<◌, List, [], ◌∷◌, ◌++◌, length, get_or, take, sym, refl, ap, ◌∙◌, subst, arith}
+use Rattle.std.proofs.lemmas.List.{take_more}
 use Rattle.books.specs.Book.{Model, Facts}
 use Rattle.plans.specs.Steps.{passed}
 use Rattle.plans.specs.Plans.{Passes, Recognized, finally}
@@ -11,9 +12,19 @@ module _ (m : Model) where
   finally_push E [] xs = refl
   finally_push E (ys ∷ plan) xs = finally_push (passed m E ys) plan xs
 
+  -- the facts after i + 1 levels
+  pub finally_more : (E : Facts) (plan : List (List ℕ)) (i : ℕ) → i < length plan
+      → finally m E (take (i + 1) plan) ≡ passed m (finally m E (take i plan)) (get_or plan i [])
+  finally_more E plan i l = ap (finally m E) (take_more plan i [] l) ∙ finally_push E (take i plan) (get_or plan i [])
+
   pub recognized_push : (E : Facts) (plan : List (List ℕ)) (xs : List ℕ) → Recognized m E plan → Passes m (finally m E plan) xs → Recognized m E (plan ++ xs ∷ [])
   recognized_push E [] xs r q = (q, tt)
   recognized_push E (ys ∷ plan) xs r q = (r.0, recognized_push (passed m E ys) plan xs r.1 q)
+
+  -- one level more passes
+  pub recognized_more : (E : Facts) (plan : List (List ℕ)) (i : ℕ) → i < length plan → Recognized m E (take i plan)
+      → Passes m (finally m E (take i plan)) (get_or plan i []) → Recognized m E (take (i + 1) plan)
+  recognized_more E plan i l r q = subst (Recognized m E) (sym (take_more plan i [] l)) (recognized_push E (take i plan) (get_or plan i []) r q)
 
   -- every level of a recognized plan passes
   pub level_passes : (E : Facts) (plan : List (List ℕ)) → Recognized m E plan → (i : ℕ) → i < length plan → Passes m (finally m E (take i plan)) (get_or plan i [])

@@ -15,7 +15,7 @@ no_call line n b f p Begin h = b n h
 no_call line n b f p Finish h = f n h
 no_call line n b f p PutBack h = p n h
 
-says_none : (line : List ℕ) → Without (codes "begin ") line → Without (codes "finish ") line → Without (codes "put back ") line → Without (codes "look ") line → (q : Request) → Says line q → ⊥
+pub says_none : (line : List ℕ) → Without (codes "begin ") line → Without (codes "finish ") line → Without (codes "put back ") line → Without (codes "look ") line → (q : Request) → Says line q → ⊥
 says_none line b f p l (Call a) h = no_call line a.place b f p a.event h
 says_none line b f p l (Look n) h = l n h
 
