@@ -17,14 +17,16 @@ fn clear_all<D: Board>(board: &mut D)
     }
 }
 
-// Clears the facts of the set. This and the next stay two loops of one call: one loop over a closure that changes the
-// board would have to say once more what the call does.
+// Clears the facts of the set that are below the span: they ascend, so the first past it ends the loop. This and the next
+// stay two loops of one call: one loop over a closure that changes the board would have to say once more what the call does.
 fn clear_each<D: Board>(board: &mut D, facts: &FactSet)
     ensures span { D.Board.limit board.new ≡ D.Board.limit board.old }
     ensures holds { (q : ℕ) → D.Board.set board.new q ≡ (D.Board.set board.old q && not (holds facts.now.words q)) }
 {
     for p in facts.iter() {
-        board.clear(p);
+        if !board.clear(p) {
+            break;
+        }
     }
 }
 
@@ -34,7 +36,9 @@ fn put_each<D: Board>(board: &mut D, facts: &FactSet)
     ensures holds { (q : ℕ) → D.Board.set board.new q ≡ (D.Board.set board.old q || (holds facts.now.words q && nat_lt q (D.Board.limit board.old))) }
 {
     for p in facts.iter() {
-        board.put(p);
+        if !board.put(p) {
+            break;
+        }
     }
 }
 

@@ -131,6 +131,52 @@ lowest (suc k) n p l =
     let half : n / 2 < 2 ^ k = omega (arith, two-pow-succ k) in
     lowest_step k n (n % 2) (count_trailing_zeros k (n / 2)) refl p (λ q. lowest k (n / 2) q half)
 
+module _ (n : ℕ) where
+  less_at_step : (d t : ℕ) → n % 2 ≡ d → 0 < n → (0 < n / 2 → (n / 2 - 1) / 2 ^ t % 2 ≡ 0) → (n - 1) / 2 ^ under d t % 2 ≡ 0
+  less_at_step zero t e p low = let half : (n - 1) / 2 ≡ n / 2 - 1 = omega arith in rw (halve (n - 1) t, half) (low (omega arith))
+  less_at_step (suc d) t e p low = omega arith
+
+  less_past_step : (d t j : ℕ) → n % 2 ≡ d → 0 < n → under d t < j
+      → ((i : ℕ) → 0 < n / 2 → t < i → (n / 2 - 1) / 2 ^ i % 2 ≡ n / 2 / 2 ^ i % 2) → (n - 1) / 2 ^ j % 2 ≡ n / 2 ^ j % 2
+  less_past_step d t zero e p h more = absurd (omega arith)
+  less_past_step zero t (suc j) e p h more =
+      let half : (n - 1) / 2 ≡ n / 2 - 1 = omega arith in
+      rw (halve (n - 1) j, halve n j, half) (more j (omega arith) (omega arith))
+  less_past_step (suc d) t (suc j) e p h more =
+      let half : (n - 1) / 2 ≡ n / 2 = omega arith in
+      rw (halve (n - 1) j, halve n j, half) refl
+
+-- n - 1 has no digit where the lowest of n is
+less_at : (k n : ℕ) → 0 < n → n < 2 ^ k → (n - 1) / 2 ^ count_trailing_zeros k n % 2 ≡ 0
+unfolding count_trailing_zeros
+less_at zero n p l = omega arith
+less_at (suc k) n p l =
+    let half : n / 2 < 2 ^ k = omega (arith, two-pow-succ k) in
+    less_at_step n (n % 2) (count_trailing_zeros k (n / 2)) refl p (λ q. less_at k (n / 2) q half)
+
+-- past it n - 1 has those of n
+less_past : (k n j : ℕ) → 0 < n → n < 2 ^ k → count_trailing_zeros k n < j → (n - 1) / 2 ^ j % 2 ≡ n / 2 ^ j % 2
+unfolding count_trailing_zeros
+less_past zero n j p l h = omega arith
+less_past (suc k) n j p l h =
+    let half : n / 2 < 2 ^ k = omega (arith, two-pow-succ k) in
+    less_past_step n (n % 2) (count_trailing_zeros k (n / 2)) j refl p h (λ i q. less_past k (n / 2) i q half)
+
+-- the word without its lowest bit, as the code has it
+pub bit_past_lowest : (v j : ℕ) → 0 < v → v < 2 ^ 64 → bit (bit_and v (v - 1)) j ≡ (leb (count_trailing_zeros 64 v + 1) j && bit v j)
+unfolding bit
+bit_past_lowest v j p l =
+    let low = lowest 64 v p l in
+    let t = count_trailing_zeros 64 v in
+    ⊎_elim
+    (λ (lt : j < t). grind (arith, nat_tests, digit_and v (v - 1) j, low.under j lt))
+    (λ (le : t ≤ j).
+    ⊎_elim
+    (λ (e : j ≡ t). rw e (grind (arith, nat_tests, digit_and v (v - 1) t, less_at 64 v p l)))
+    (λ (ne : j ≡ t → ⊥). let past : t < j = omega arith in grind (arith, nat_tests, digit_and v (v - 1) j, less_past 64 v j p l past))
+    (cases_eq j t))
+    (cases_lt j t)
+
 pub bit_minus : (a b k : ℕ) → b < 2 ^ 64 → k < 64 → bit (bit_and a ((2 ^ 64 - 1) - b)) k ≡ (bit a k && not (bit b k))
 bit_minus a b k l h = bit_of_and a ((2 ^ 64 - 1) - b) k ∙ ap (λ x. bit a k && x) (bit_not b k l h)
 

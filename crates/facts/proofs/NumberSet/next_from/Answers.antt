@@ -18,10 +18,10 @@ returns-then-word-ne0 g c =
     let w = c.in-Some.word.now in
     let y = ahead words (p / 64) c.iter.ensures.rest c.enumerate.ensures.source c.enumerate.ensures.count c.skip-i-items.ensures.source c.skip-i-items.ensures.count c.into_iter-i-iterator.ensures.into_iter_gives in
     let at = placed words (p / 64) (length c.loop-i.yielded) i w (YieldsList-turn y c.loop-i.yielded _ c.loop-i.yielded_by _ _ _ c.in-Some.is c.next.ensures.steps) in
-    let clear : Clear words p i = rw at.place c.loop-i.invariant in
-    let l = c.saturating_sub-low.result in
+    let clear : Clear words p i = rw at.place c.loop-i.invariant.0 in
+    let l = c.loop-i.low in
     let v = (w / 2 ^ l * 2 ^ l) % 2 ^ 64 in
-    let cut = word w (get_or words i 0) p i l (omega arith) at.word c.saturating_sub-low.ensures in
+    let cut = word w (get_or words i 0) p i l (omega arith) at.word (omega (arith, at.place, c.loop-i.invariant.1)) in
     let from : p / 64 ≤ i = omega (arith, at.place) in
     let pos : 0 < v = omega arith in
     let fits : v < 2 ^ 64 = omega arith in (
@@ -41,10 +41,10 @@ loop-i-preserved g c =
     let w = c.in-Some.word.now in
     let y = ahead words (p / 64) c.iter.ensures.rest c.enumerate.ensures.source c.enumerate.ensures.count c.skip-i-items.ensures.source c.skip-i-items.ensures.count c.into_iter-i-iterator.ensures.into_iter_gives in
     let at = placed words (p / 64) (length c.loop-i.yielded) i w (YieldsList-turn y c.loop-i.yielded _ c.loop-i.yielded_by _ _ _ c.in-Some.is c.next.ensures.steps) in
-    let clear : Clear words p i = rw at.place c.loop-i.invariant in
-    let cut = word w (get_or words i 0) p i c.saturating_sub-low.result (omega arith) at.word c.saturating_sub-low.ensures in
+    let clear : Clear words p i = rw at.place c.loop-i.invariant.0 in
+    let cut = word w (get_or words i 0) p i c.loop-i.low (omega arith) at.word (omega (arith, at.place, c.loop-i.invariant.1)) in
     let n : p / 64 + length (c.loop-i.yielded ++ (i, c.in-Some.word) ∷ []) ≡ i + 1 = omega (arith, at.place, length_push c.loop-i.yielded (i, c.in-Some.word)) in
-    rw n (clear_more words p i _ (omega (arith, at.place)) clear cut c.if-word-ne0.false)
+    rw n (clear_more words p i _ (omega (arith, at.place)) clear cut c.if-word-ne0.false, omega (arith, at.place))
 
 pub returns : goal.returns
 returns g c =
@@ -52,4 +52,4 @@ returns g c =
     let n = c.args.p / 64 in
     let y = ahead words n c.iter.ensures.rest c.enumerate.ensures.source c.enumerate.ensures.count c.skip-i-items.ensures.source c.skip-i-items.ensures.count c.into_iter-i-iterator.ensures.into_iter_gives in
     let e = YieldsList-end y c.loop-i.yielded _ c.loop-i.yielded_by _ _ c.in-None.is c.next.ensures.steps in
-    all_clear words c.args.p (n + length c.loop-i.yielded) (omega (arith, e.1, length_ahead words n)) c.loop-i.invariant
+    all_clear words c.args.p (n + length c.loop-i.yielded) (omega (arith, e.1, length_ahead words n)) c.loop-i.invariant.0
