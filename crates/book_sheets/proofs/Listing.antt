@@ -1,13 +1,15 @@
 -- The numbers of a set as a list of a sheet: it ascends, and is written number by number.
-use Rattle.std.proofs.Common.{◌≡◌, ℕ, zero, suc, ◌+◌, ◌*◌, ◌<◌, ◌≤◌, true, ltb, List, [], ◌∷◌, ◌++◌, length, get_or, sym, refl, ap, ◌∙◌, inl, inr, arith}
+use Rattle.std.proofs.Common.{◌≡◌, ℕ, zero, suc, ◌+◌, ◌*◌, ◌<◌, ◌≤◌, true, false, ltb, List, [], ◌∷◌, ◌++◌, length, get_or, sym, refl, ap, ◌∙◌, inl, inr, arith}
 use Rattle.std.proofs.lemmas.Bool.{cases_Bool, cases_lt, and_parts}
 use Rattle.std.proofs.lemmas.List.{append-nil, length_push, get_or_push, get_or_append_left}
 use Rattle.books.specs.Book.{Facts}
 use Rattle.books.specs.Listed.{members}
 use Rattle.books.proofs.Counts.{count_hit}
-use Rattle.books.proofs.Members.{length_members, count_up, listed_members}
+use Rattle.books.proofs.Members.{length_members, members_hit, members_miss, count_up, listed_members}
 use Rattle.sheets.specs.Fields.{two, twos}
 use Rattle.sheets.specs.Lists.{Ascending}
+use Rattle.sheets.specs.Writing.{Wrote}
+use Rattle.sheets.proofs.Buffers.{wrote_on, wrote_as}
 use Rattle.sheets.proofs.Stands.{length_twos}
 use Rattle.book_sheets.proofs.Ascents.{says_listed}
 
@@ -60,3 +62,12 @@ member_room P f p l e =
     let d = count_hit P p e in
     let u = count_up P (p + 1) f (omega arith) in
     omega arith
+
+-- one number more that is in the set, and one that is not
+pub member_put : {xs ws vs : List ℕ} {at n k : ℕ} (P : Facts) (p : ℕ) → at ≤ length xs → P p ≡ true
+    → Wrote xs at (twos (members P p)) ws n → Wrote ws n (two p) vs k → Wrote xs at (twos (members P (p + 1))) vs k
+member_put P p h e w v = wrote_as (sym (ap twos (members_hit P p e) ∙ twos_push (members P p) p)) (wrote_on h w v)
+
+pub member_passed : {xs ws : List ℕ} {at n : ℕ} (P : Facts) (p : ℕ) → P p ≡ false
+    → Wrote xs at (twos (members P p)) ws n → Wrote xs at (twos (members P (p + 1))) ws n
+member_passed P p e w = wrote_as (sym (ap twos (members_miss P p e))) w

@@ -4,17 +4,17 @@ use Rattle.std.proofs.lemmas.Bool.{ltb-true, ltb-false}
 use Rattle.std.proofs.lemmas.List.{get_or_past}
 use Rattle.books.specs.Listed.{listed}
 use Rattle.sheets.specs.Fields.{be16, be32}
-use Rattle.sheets.specs.Lists.{entry, numbers_at}
+use Rattle.sheets.specs.Lists.{entry, numbers_at, among}
 use Rattle.sheets.specs.Numbers.{numbers_of, Ascends}
 use Rattle.sheets.proofs.Verdicts.{Passes, up_to_each}
 use Rattle.sheets.proofs.Entries.{entries_rise, numbers_ascend}
 use Rattle.book_sheets.specs.declared.step_lists.StepLists.{StepLists}
 use Rattle.book_sheets.specs.Layout.{row_at, lists_at, book_verdict}
-use Rattle.book_sheets.specs.Content.{empty_step, step_of, steps_from, content}
+use Rattle.book_sheets.specs.Content.{empty_step, step_of, steps_from, content, model_of}
 use Rattle.book_sheets.specs.Reading.{Row, NoRow, Lists, NoLists}
 use Rattle.book_sheets.proofs.Known.{Passed, known, deleted_entry}
 use Rattle.book_sheets.proofs.Lawful.{length_steps_from}
-use Rattle.book_sheets.proofs.Ascents.{has_listed}
+use Rattle.book_sheets.proofs.Ascents.{has_listed, among_listed}
 
 step_from : (xs : List ℕ) (b n a : ℕ) → a < n → get_or (steps_from xs b n) a empty_step ≡ step_of xs (b + a)
 step_from xs b zero a l = absurd (omega arith)
@@ -29,7 +29,7 @@ pub step_past : (xs : List ℕ) (a : ℕ) → be16 xs 2 ≤ a → get_or (conten
 step_past xs a l = get_or_past (content xs).steps a empty_step (omega (arith, length_steps_from xs 0 (be16 xs 2)))
 
 -- a row is found where it stands
-row_found : (xs : List ℕ) → Passes (book_verdict xs) → (a : ℕ) → a < be16 xs 2 → Row xs a (row_at a)
+pub row_found : (xs : List ℕ) → Passes (book_verdict xs) → (a : ℕ) → a < be16 xs 2 → Row xs a (row_at a)
 row_found xs ok a l = record {
   there = l;
   place = refl;
@@ -37,7 +37,7 @@ row_found xs ok a l = record {
   seconds = ap (λ s. s.seconds) (sym (step_is xs a l));
 }
 
-no_row_found : (xs : List ℕ) (a : ℕ) → be16 xs 2 ≤ a → NoRow xs a
+pub no_row_found : (xs : List ℕ) (a : ℕ) → be16 xs 2 ≤ a → NoRow xs a
 no_row_found xs a l = record { past = l; seconds = ap (λ s. s.seconds) (sym (step_past xs a l)) }
 
 pub row_answered : (xs : List ℕ) → Passes (book_verdict xs) → (a : ℕ) (r : Option ℕ) → is_some r ≡ ltb a (be16 xs 2) → IfSome r (λ at. at ≡ row_at a)
@@ -94,3 +94,13 @@ module _ (xs : List ℕ) (ok : Passes (book_verdict xs)) (a row at n m k : ℕ) 
         adds = λ p. has_listed (numbers_of lists.adds.numbers) p ∙ ap (λ ps. listed ps p) (adds ∙ ap (λ t. t.adds) s);
         deletes = λ p. has_listed (numbers_of lists.deletes.numbers) p ∙ ap (λ ps. listed ps p) (deletes ∙ ap (λ t. t.deletes) s);
       }
+
+  -- the numbers that are read are the facts of the step
+  pub needs_read : (p : ℕ) → among xs at n p ≡ (model_of (content xs)).needs a p
+  needs_read p = among_listed xs at n p ∙ ap (λ t. listed t.needs p) (sym (step_is xs a h.there ∙ step))
+
+  pub adds_read : (p : ℕ) → among xs (at + 2 * n) m p ≡ (model_of (content xs)).adds a p
+  adds_read p = among_listed xs (at + 2 * n) m p ∙ ap (λ t. listed t.adds p) (sym (step_is xs a h.there ∙ step))
+
+  pub deletes_read : (p : ℕ) → among xs (at + 2 * n + 2 * m) k p ≡ (model_of (content xs)).deletes a p
+  deletes_read p = among_listed xs (at + 2 * n + 2 * m) k p ∙ ap (λ t. listed t.deletes p) (sym (step_is xs a h.there ∙ step))

@@ -1,5 +1,6 @@
 -- Bytes written one after the other into a buffer.
-use Rattle.std.proofs.Common.{◌≡◌, ℕ, ◌+◌, ◌≤◌, List, [], ◌++◌, length, take, drop, sym, ap, ◌∙◌, append_assoc, arith, length-append}
+use Rattle.std.proofs.Common.{◌≡◌, ℕ, ◌+◌, ◌-◌, ◌≤◌, List, [], ◌++◌, length, take, drop, sym, ap, ◌∙◌, subst, append_assoc, zero-add, arith, length-append}
+use borrow.Rule.Slice.PartMut.{put_mid}
 use Rattle.std.proofs.lemmas.List.{take-append-drop, take_at, drop-drop, drop_at, length-take-le}
 use Rattle.sheets.specs.Writing.{written, Wrote}
 
@@ -40,3 +41,20 @@ wrote_on {xs} {ys} {ws} {zs} {vs} {at} {n} {k} h p q =
       bytes = q.bytes ∙ ap (λ r. written r n zs) p.bytes ∙ ap (λ m. written (written xs at ys) m zs) p.place ∙ written_on xs at ys zs h;
       place = let l = length-append ys zs in let a = p.place in let b = q.place in omega arith;
     }
+
+-- a copy into the part from a place to the next
+pub part_written : (xs : List ℕ) (at : ℕ) (ys : List ℕ) → put_mid at (at + length ys - at) xs ys ≡ written xs at ys
+part_written xs at ys =
+    let e : at + (at + length ys - at) ≡ at + length ys = omega arith in
+    ap (λ r. take at xs ++ (ys ++ r)) (drop-drop (at + length ys - at) at xs ∙ ap (λ n. drop n xs) e)
+
+-- the same bytes under another name
+pub wrote_as : {xs ys zs ws : List ℕ} {at n : ℕ} → ys ≡ zs → Wrote xs at ys ws n → Wrote xs at zs ws n
+wrote_as {xs} {ys} {zs} {ws} {at} {n} e p = subst (λ r. Wrote xs at r ws n) e p
+
+pub wrote_to : {xs ys ws vs : List ℕ} {at n k : ℕ} → vs ≡ ws → k ≡ n → Wrote xs at ys ws n → Wrote xs at ys vs k
+wrote_to e f p = record { bytes = e ∙ p.bytes; place = f ∙ p.place }
+
+-- bytes written at the front are followed by what stood behind them
+pub front_put : {xs ys ws : List ℕ} {n : ℕ} → Wrote xs 0 ys ws n → ws ≡ ys ++ drop (length ys) xs
+front_put {xs} {ys} w = w.bytes ∙ ap (λ k. ys ++ drop k xs) (zero-add (length ys))

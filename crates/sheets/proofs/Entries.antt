@@ -1,12 +1,13 @@
 -- Lists of ascending numbers: what passes ascends, and what ascends passes.
 use Rattle.std.proofs.Common.{◌≡◌, ℕ, zero, suc, ◌+◌, ◌-◌, ◌*◌, ◌<◌, ◌≤◌, true, false, ◌||◌, eqb, ltb, ◌⊎◌, List, length, get_or, sym, refl, ap, ◌∙◌, subst, inl, inr, arith}
-use Rattle.std.proofs.lemmas.Bool.{cases_eq, ltb-true, lt-ltb, eqb-true, eq-eqb, ne_eqb, or_cases, or_left, or_right, or_from, both_ways}
+use Rattle.std.proofs.lemmas.Bool.{cases_Bool, cases_eq, ltb-true, lt-ltb, eqb-true, eq-eqb, ne_eqb, or_cases, or_left, or_right, or_from, both_ways}
 use Rattle.sheets.specs.declared.fault.Refusal.TheVariants.{OutOfRange, NotAbove}
 use Rattle.sheets.specs.Verdicts.{must}
 use Rattle.sheets.specs.Fields.{be16, field, twos}
-use Rattle.sheets.specs.Numbers.{Ascends}
+use Rattle.sheets.specs.Numbers.{Ascends, has_number}
 use Rattle.sheets.specs.Lists.{entry, entries, numbers_at, among, Rising, Ascending}
 use Rattle.sheets.proofs.Verdicts.{Passes, then_left, then_right, then_pass, must_true, must_pass, up_to_pass, field_room, field_pass}
+use Rattle.sheets.proofs.Pairs.{has_at, has_none}
 use Rattle.sheets.proofs.Stands.{Stands, length_numbers_at, read_numbers, numbers_end, get_or_numbers_at}
 
 pub entry_room : (xs : List ℕ) (f at j : ℕ) → Passes (entry xs f at j) → at + 2 * j + 2 ≤ length xs
@@ -56,6 +57,11 @@ pub numbers_ascend : (xs : List ℕ) (at n : ℕ) → Rising xs at n → Ascends
 numbers_ascend xs at n up i j l k =
     let in_list : j < n = omega (arith, length_numbers_at xs at n) in
     omega (arith, up i j l in_list, get_or_numbers_at xs at n i (omega arith), get_or_numbers_at xs at n j in_list)
+
+-- and back
+pub numbers_rise : (xs : List ℕ) (at n : ℕ) → Ascends (numbers_at xs at n) → Rising xs at n
+numbers_rise xs at n up i j l k =
+    omega (arith, up i j l (omega (arith, length_numbers_at xs at n)), get_or_numbers_at xs at n i (omega arith), get_or_numbers_at xs at n j k)
 
 above_zero : (xs : List ℕ) (at i : ℕ) → (i ≡ 0) ⊎ (be16 xs (at + 2 * i - 2) < be16 xs (at + 2 * i)) → (eqb i 0 || ltb (be16 xs (at + 2 * i - 2)) (be16 xs (at + 2 * i))) ≡ true
 above_zero xs at i (inl z) = or_left (eqb i 0) _ (eq-eqb i 0 z)
@@ -109,3 +115,12 @@ among_says xs at (suc n) p h = elim (or_cases (among xs at n p) (eqb (be16 xs (a
 
 pub says_among : (xs : List ℕ) (at n p j : ℕ) → j < n → get_or (numbers_at xs at n) j 0 ≡ p → among xs at n p ≡ true
 says_among xs at n p j l e = among_found xs at p j n l (sym (get_or_numbers_at xs at n j l) ∙ e)
+
+-- a number is among the entries of a list where its numbers have it
+pub among_has : (xs : List ℕ) (at n p : ℕ) → among xs at n p ≡ has_number (numbers_at xs at n) p
+among_has xs at n p =
+    let ps = numbers_at xs at n in
+    elim (cases_Bool (among xs at n p)) [
+      | inl e ↦ let r = among_says xs at n p e in e ∙ sym (has_at ps p r.0 (omega (arith, r.1.0, length_numbers_at xs at n)) (sym r.1.1))
+      | inr e ↦ e ∙ sym (has_none ps p (λ j l h. both_ways (among xs at n p) e (says_among xs at n p j (omega (arith, length_numbers_at xs at n)) (sym h))))
+    ]

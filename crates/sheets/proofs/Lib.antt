@@ -5,3 +5,4 @@ pub mod Buffers
 pub mod Writers
 pub mod Pairs
 pub mod Parts
+pub mod Halving

@@ -58,3 +58,16 @@ module _ (pairs : List (List ℕ)) (ps : List ℕ) (says : map number_in pairs �
     | inl h ↦ let s = said j [] (omega (arith, as_long)) in let less = ranked _ p _ (sym ((parted comparisons_rise).0 j [] (omega arith) h)) in omega arith
     | inr h ↦ let s = said j [] (omega (arith, as_long)) in let more = ranked _ p _ (sym ((parted comparisons_rise).1 j [] h (omega (arith, as_long)))) in omega arith
   ]))
+
+-- where the number at a place is below, those before it are too, and where it is above, those behind it are
+pub below : (ps : List ℕ) → Ascends ps → (p m : ℕ) → m < length ps → get_or ps m 0 < p → (i : ℕ) → i < m + 1 → get_or ps i 0 < p
+below ps up p m l h i k = elim (cases_lt i m) [
+  | inl j ↦ omega (arith, up i m j l)
+  | inr j ↦ let same : i ≡ m = omega arith in omega (arith, ap (λ v. get_or ps v 0) same)
+]
+
+pub above : (ps : List ℕ) → Ascends ps → (p m : ℕ) → p < get_or ps m 0 → (i : ℕ) → m ≤ i → i < length ps → p < get_or ps i 0
+above ps up p m h i k l = elim (cases_lt m i) [
+  | inl j ↦ omega (arith, up m i j l)
+  | inr j ↦ let same : i ≡ m = omega arith in omega (arith, ap (λ v. get_or ps v 0) same)
+]

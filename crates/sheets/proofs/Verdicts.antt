@@ -1,5 +1,5 @@
 -- What passes, part by part.
-use Rattle.std.proofs.Common.{◌≡◌, ℕ, zero, suc, ◌+◌, ◌<◌, ◌≤◌, Bool, true, false, eqb, leb, List, length, is_ok, Ok, Err, refl, inl, inr, arith}
+use Rattle.std.proofs.Common.{◌≡◌, ℕ, zero, suc, ◌+◌, ◌<◌, ◌≤◌, Bool, true, false, eqb, leb, List, length, is_ok, Ok, Err, refl, inl, inr, add-one, arith}
 use Rattle.std.proofs.lemmas.Bool.{cases_eq, leb-true, le-leb, eqb-true, eq-eqb, both_ways}
 use Rattle.sheets.specs.declared.fault.Refusal.{Refusal}
 use Rattle.sheets.specs.declared.fault.Refusal.TheVariants.{Short, OverLimit, Misplaced}
@@ -69,3 +69,11 @@ offset_is xs at begins h = eqb-true (be32 xs at) begins (must_true (eqb (be32 xs
 
 pub offset_pass : (xs : List ℕ) (at begins : ℕ) → be32 xs at ≡ begins → Passes (offset xs at begins)
 offset_pass xs at begins h = must_pass (eqb (be32 xs at) begins) Misplaced at (eq-eqb (be32 xs at) begins h)
+
+-- one part more that is fine
+pub up_to_more : (v : ℕ → Verdict) (i : ℕ) → up_to v i ≡ fine → v i ≡ fine → up_to v (i + 1) ≡ fine
+up_to_more v i h k = rw (add-one, h, k)
+
+-- a number within its limit
+pub limit_kept : (n most at : ℕ) → Passes (limit n most at) → n ≤ most
+limit_kept n most at h = leb-true n most (must_true (leb n most) OverLimit at h)

@@ -80,3 +80,7 @@ reads s b e = ap (λ o. option_map_or (λ bytes. bytes.now) o (encode no_task)) 
 
 pub good_opened : (s : TaskSheet) (b : Bor (List ℕ)) → s.opened ≡ Some b → GoodSheet b.now
 good_opened s b e = sheet_good b.now (s.passes b e)
+
+-- a sheet that is not opened says the task of no facts, steps and levels
+pub unopened_says : (s : TaskSheet) → s.opened ≡ None → task_of s ≡ no_task
+unopened_says s e = ap (λ o. content (option_map_or (λ bytes. bytes.now) o (encode no_task))) e

@@ -6,11 +6,16 @@ ghost use Rattle.task_sheets.specs.Example.{Worked};
 mod checks;
 pub mod item;
 pub mod levels;
+
+pub mod numbers {
+    pub use sheets::Numbers;
+}
+
 pub mod task_sheet;
 
 pub use item::{Item, Part};
 pub use levels::Levels;
-pub use sheets::Numbers;
+pub use numbers::Numbers;
 pub use task_sheet::TaskSheet;
 
 // The sheet of a task in two levels, byte by byte.
