@@ -2,46 +2,12 @@
 use Rattle.std.proofs.Common.{◌≡◌, ℕ, zero, suc, ◌+◌, ◌*◌, ◌≤◌, List, [], ◌∷◌, ◌++◌, length, sym, refl, ap, ◌∙◌, inl, inr, add-one, arith, length-append}
 use Rattle.std.proofs.lemmas.List.{append_assoc, append-nil}
 use Rattle.std.proofs.lemmas.Bool.{cases_lt}
-use Rattle.books.specs.Book.{Facts, Model, count, StepSets, Lawful}
-use Rattle.books.specs.Gathered.{Gathers}
-use Rattle.books.specs.Listed.{members}
-use Rattle.books.specs.declared.step_facts.StepFacts.{StepFacts}
-use Rattle.books.proofs.Members.{length_members}
-use Rattle.facts.specs.Sets.{holds}
+use Rattle.books.specs.Book.{Model, Lawful}
 use Rattle.sheets.specs.Fields.{twos}
 use Rattle.sheets.proofs.Stands.{length_twos}
 use Rattle.book_sheets.specs.Content.{Step, step_row, step_rows, past, lists_of, all_lists, step_in, steps_in}
-use Rattle.book_sheets.specs.Numbers.{numbers_in}
-use Rattle.book_sheets.proofs.NumberLists.{length_numbers, same_numbers}
 use Rattle.book_writer.specs.Writing.{bytes_of}
 use Rattle.book_writer.proofs.Contents.{length_steps_in, step_lawful}
-
--- the numbers of a set of a step are one of the step's lists, of few facts
-pub record Lists (words ps : List ℕ) : Type 0 where
-  pub numbers : numbers_in words 16 ≡ ps
-  pub size : count (holds words) 1024 ≡ length ps
-  pub few : length ps ≤ 250
-
-lists : (f n : ℕ) (sets : ℕ → Facts) → StepSets f n sets → f ≤ 1024 → (a : ℕ) (words : List ℕ) → ((p : ℕ) → holds words p ≡ sets a p) → Lists words (members (sets a) f)
-lists f n sets h l a words same =
-    let e = same_numbers words 16 (sets a) f same (h.no_fact a) l in
-    record {
-      numbers = e;
-      size = sym (length_numbers words 16) ∙ ap length e;
-      few = let c = length_members (sets a) f in let k = h.few a in omega arith;
-    }
-
-pub record StepLists (s : Step) (facts : StepFacts) : Type 0 where
-  pub needs : Lists facts.needs.words s.needs
-  pub adds : Lists facts.adds.words s.adds
-  pub deletes : Lists facts.deletes.words s.deletes
-
-pub step_lists : (m : Model) → Lawful m → (a : ℕ) (facts : StepFacts) → Gathers m a facts → StepLists (step_in m a) facts
-step_lists m h a facts g = record {
-  needs = lists m.facts m.steps m.needs h.needs h.few_facts a facts.needs.words g.needs;
-  adds = lists m.facts m.steps m.adds h.adds h.few_facts a facts.adds.words g.adds;
-  deletes = lists m.facts m.steps m.deletes h.deletes h.few_facts a facts.deletes.words g.deletes;
-}
 
 pub length_lists : (s : Step) → length (lists_of s) ≡ 2 * length s.needs + 2 * length s.adds + 2 * length s.deletes
 length_lists s =

@@ -1,7 +1,9 @@
 -- The parts of a book's sheet, written step by step.
-use Rattle.std.proofs.Common.{◌≡◌, ℕ, ◌+◌, ◌*◌, ◌≤◌, [], ◌∷◌, ◌++◌, length, sym, ap, ◌∙◌, arith}
-use Rattle.std.proofs.lemmas.List.{append_assoc}
-use Rattle.books.specs.Book.{Model, Lawful}
+use Rattle.std.proofs.Common.{◌≡◌, ℕ, ◌+◌, ◌*◌, ◌≤◌, true, false, [], ◌∷◌, ◌++◌, length, sym, ap, ◌∙◌, arith}
+use Rattle.std.proofs.lemmas.List.{append_assoc, length_push}
+use Rattle.books.specs.Book.{Facts, Model, Lawful}
+use Rattle.books.specs.Listed.{members}
+use Rattle.books.proofs.Members.{members_hit, members_miss}
 use Rattle.sheets.specs.Fields.{two, four}
 use Rattle.sheets.specs.declared.writer.Writer.{Writer}
 use Rattle.sheets.specs.Writers.{Writes as WritesBytes}
@@ -12,6 +14,13 @@ use Rattle.book_writer.specs.Parts.{SizesOf, header_of, rows_of, lists_in}
 use Rattle.book_writer.specs.Writing.{bytes_of}
 use Rattle.book_writer.proofs.Contents.{length_steps_in}
 use Rattle.book_writer.proofs.Lengths.{length_rows, steps_more, rows_more, lists_more, all_lists_few}
+
+-- one fact more, in the set or not
+pub fact_counts : (P : Facts) (p : ℕ) → P p ≡ true → length (members P (p + 1)) ≡ length (members P p) + 1
+fact_counts P p e = ap length (members_hit P p e) ∙ length_push (members P p) p
+
+pub fact_passed : (P : Facts) (p : ℕ) → P p ≡ false → length (members P (p + 1)) ≡ length (members P p)
+fact_passed P p e = ap length (members_miss P p e)
 
 -- the rows, one after the other
 pub row_room : (m : Model) (at a : ℕ) → length (step_rows at (steps_in m a)) ≡ 11 * a

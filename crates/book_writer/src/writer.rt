@@ -1,13 +1,30 @@
-ghost use Rattle.std.specs.Prelude.{◌≡◌, ◌+◌, ◌*◌, ◌≤◌, [], ◌∷◌, ◌++◌, length, drop};
-ghost use Rattle.sheets.specs.Fields.{four};
+ghost use Rattle.std.specs.Prelude.{◌≡◌, ℕ, ◌+◌, ◌*◌, ◌<◌, ◌≤◌, false, [], ◌∷◌, ◌++◌, length, drop, MatchOption};
+ghost use Rattle.books.specs.Book.{Facts};
+ghost use Rattle.books.specs.Listed.{members};
+ghost use Rattle.facts.specs.Sets.{Next};
+ghost use Rattle.sheets.specs.Fields.{four, twos};
 ghost use Rattle.sheets.specs.Writers.{Room, Writes as WritesBytes};
 ghost use Rattle.book_sheets.specs.Content.{step_in, lists_of};
-ghost use Rattle.book_writer.specs.Parts.{SizesOf, header_of, rows_of, lists_in};
+ghost use Rattle.book_writer.specs.Parts.{Tells, SizesOf, header_of, rows_of, lists_in};
 ghost use Rattle.book_writer.specs.Writing.{bytes_of, Writes, Means, Again};
 
-use book_sheets::put_numbers;
-use books::{Book, gather};
+use books::Book;
 use sheets::{TooShort, Writer};
+
+// How many facts below `facts` there are for which `is_in` answers yes.
+fn count_facts<F: Fn(usize) -> bool>(facts: usize, is_in: F) -> u8
+    requires callable { F.IsAlwaysCallable is_in }
+    requires few { (set : Facts) × Tells (F.post is_in) facts set × length (members set facts) ≤ 250 }
+    ensures { (set : Facts) → Tells (F.post is_in) facts set → result ≡ length (members set facts) }
+{
+    let mut n = 0;
+    for p in 0..facts {
+        if is_in(p) {
+            n += 1;
+        }
+    }
+    n
+}
 
 // How many facts a step needs, adds and deletes.
 #[derive(Clone, Copy)]
@@ -22,11 +39,11 @@ impl Sizes {
     fn of<B: Book>(book: &B, a: usize) -> Sizes
         ensures { SizesOf (step_in (B.model book.now) a) result }
     {
-        let facts = gather(book, a);
+        let facts = book.facts();
         Sizes {
-            needs: facts.needs.len() as u8,
-            adds: facts.adds.len() as u8,
-            deletes: facts.deletes.len() as u8,
+            needs: count_facts(facts, |p| book.needs(a, p)),
+            adds: count_facts(facts, |p| book.adds(a, p)),
+            deletes: count_facts(facts, |p| book.deletes(a, p)),
         }
     }
 
@@ -89,15 +106,43 @@ fn put_rows<B: Book>(out: &mut Writer<'_>, book: &B)
     }
 }
 
+// The first fact from `from` on, below `facts`, for which `is_in` answers yes. The loop writes nothing, so what the
+// answers ask of the step alone can be done once before it.
+fn next_fact<F: Fn(usize) -> bool>(from: usize, facts: usize, is_in: &F) -> Option<usize>
+    requires { F.IsAlwaysCallable is_in.now }
+    ensures { (set : Facts) → Tells (F.post is_in.now) facts set → MatchOption result ((q : ℕ) → from ≤ q → q < facts → set q ≡ false) (λ p. (p < facts) × Next set from p) }
+{
+    for p in from..facts {
+        if is_in(p) {
+            return Some(p);
+        }
+    }
+    None
+}
+
+// Writes the facts below `facts` for which `is_in` answers yes, two bytes for each.
+fn put_facts<F: Fn(usize) -> bool>(out: &mut Writer<'_>, facts: usize, is_in: F)
+    requires callable { F.IsAlwaysCallable is_in }
+    requires few { facts ≤ 1024 }
+    requires room { (set : Facts) × Tells (F.post is_in) facts set × Room out.old (2 * length (members set facts)) }
+    ensures { (set : Facts) → Tells (F.post is_in) facts set → WritesBytes out.old (twos (members set facts)) out.new }
+{
+    let mut from = 0;
+    while let Some(p) = next_fact(from, facts, &is_in) {
+        out.put(p as u16);
+        from = p + 1;
+    }
+}
+
 // Writes the lists of step `a`.
 fn put_lists<B: Book>(out: &mut Writer<'_>, book: &B, a: usize)
     requires { Room out.old (length (lists_of (step_in (B.model book.now) a))) }
     ensures { WritesBytes out.old (lists_of (step_in (B.model book.now) a)) out.new }
 {
-    let facts = gather(book, a);
-    put_numbers(out, &facts.needs);
-    put_numbers(out, &facts.adds);
-    put_numbers(out, &facts.deletes);
+    let facts = book.facts();
+    put_facts(out, facts, |p| book.needs(a, p));
+    put_facts(out, facts, |p| book.adds(a, p));
+    put_facts(out, facts, |p| book.deletes(a, p));
 }
 
 // Writes the lists of all steps.
