@@ -1,14 +1,15 @@
 -- One level: what each turn of a loop over its steps keeps.
-use Rattle.std.proofs.Common.{◌≡◌, ℕ, suc, ◌+◌, ◌<◌, ◌≤◌, Bool, false, ◌||◌, List, [], ◌∷◌, ◌++◌, length, get_or, take, set, Decides, sym, ap, ◌∙◌, subst, inl, inr, arith, get_or-set_other, get_or-set_same}
+use Rattle.std.proofs.Common.{◌≡◌, ℕ, suc, ◌+◌, ◌<◌, ◌≤◌, Bool, true, false, not, ◌&&◌, ◌||◌, eqb, List, [], ◌∷◌, ◌++◌, length, get_or, take, set, Decides, sym, refl, ap, ◌∙◌, subst, inl, inr, arith, get_or-set_other, get_or-set_same}
 use Rattle.std.specs.List.{ContainsAt as Has, HoldsAt}
 use Rattle.std.proofs.lemmas.List.{get_or-map, take_more}
 use Rattle.std.proofs.ByRecursion.{All-from_get_or}
-use Rattle.std.proofs.lemmas.Bool.Decides.{nat_tests, Decides-like}
-use Rattle.std.proofs.lemmas.Bool.{cases_lt, cases_order, both_ways}
+use Rattle.std.proofs.lemmas.Bool.Decides.{nat_tests, Decides-like, Decides-not, Decides-at}
+use Rattle.std.proofs.lemmas.Bool.{cases_lt, cases_order, cases_Bool, both_ways, and_from, not_from_false, not_from_true, eq-eqb}
 use Rattle.facts.specs.Sets.{First}
-use Rattle.books.specs.Book.{Model}
+use Rattle.books.specs.Book.{Model, Facts}
 use Rattle.books.specs.Gathered.{Gathers}
-use Rattle.plans.specs.Steps.{some}
+use Rattle.plans.specs.Steps.{Authorizes, some}
+use Rattle.plans.specs.Order.{Before}
 use Rattle.plans.specs.Plans.{Ascending}
 use Rattle.plans.proofs.Members.{pairwise_get_or}
 use Rattle.checks.specs.declared.arrangement.Place.{Place}
@@ -76,3 +77,39 @@ module _ (d : List PlacedStep) (i : ℕ) (s : PlacedStep) (l : i < length d) (e 
 
   pub told_at : (m : Model) → Told m d → Gathers m s.place.step s.facts
   told_at m t = subst (λ (x : PlacedStep). Gathers m x.place.step x.facts) (sym e) (t i l s)
+
+-- a set that has nothing outside E is met
+pub met_within : (f g E : Facts) → ((q : ℕ) → f q ≡ g q) → ((q : ℕ) → (f q && not (E q)) ≡ false) → (p : ℕ) → g p ≡ true → E p ≡ true
+met_within f g E e h p t =
+    elim (cases_Bool (E p)) [ inl s ↦ s | inr s ↦ absurd (both_ways _ (h p) (and_from (f p) (not (E p)) (e p ∙ t) (not_from_false (E p) s))) ]
+
+module _ (m : Model) (u v : ℕ) where
+  pub not_before_itself : u ≡ v → Decides (not (eqb u v)) (Before m u v)
+  not_before_itself e =
+      Decides-at (not (eqb u v)) false (not_from_true (eqb u v) (eq-eqb u v e)) (λ f. absurd (both_ways false refl f), λ w. absurd (w.differ e))
+
+  -- another step comes before where it is not authorized
+  pub before_decides : (u ≡ v → ⊥) → (s : Bool) → Decides s (Authorizes m v u) → Decides (not s) (Before m u v)
+  before_decides n s h = Decides-like (not s) (λ f. record { differ = n; refused = f }) (λ w. w.refused) (Decides-not s h)
+
+-- a set that is marked up to j gets a mark at j, or none
+module _ (old new : ℕ → Bool) (j : ℕ) (r : Bool) (is : (q : ℕ) → new q ≡ (old q || (r && eqb q j))) (empty : (k : ℕ) → j ≤ k → old k ≡ false) where
+  same_elsewhere : (k : ℕ) → (k ≡ j → ⊥) → new k ≡ old k
+  same_elsewhere k n = let e = is k in grind (arith, nat_tests)
+
+  pub empty_more : (k : ℕ) → j + 1 ≤ k → new k ≡ false
+  empty_more k l = same_elsewhere k (λ e. omega arith) ∙ empty k (omega arith)
+
+  marked_here : new j ≡ r
+  marked_here = let e = is j in let f = empty j (omega arith) in grind (arith, nat_tests)
+
+  pub marks_more : (P : ℕ → Type 0) → ((k : ℕ) → k < j → Decides (old k) (P k)) → Decides r (P j) → (k : ℕ) → k < j + 1 → Decides (new k) (P k)
+  marks_more P f h k l =
+      elim (cases_lt k j) [
+        | inl s ↦ Decides-at (new k) (old k) (same_elsewhere k (λ e. omega arith)) (f k s)
+        | inr s ↦ (let e : j ≡ k = omega arith in subst (λ n. Decides (new n) (P n)) e (Decides-at (new j) r marked_here h))
+      ]
+
+pub unmarked : (a r b : Bool) → r ≡ false → a ≡ (a || (r && b))
+unmarked true r b e = refl
+unmarked false r b e = sym (ap (λ s. s && b) e)

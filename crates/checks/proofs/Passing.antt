@@ -1,12 +1,12 @@
 -- The levels of a plan, passed one after the other.
-use Rattle.std.proofs.Common.{◌≡◌, ℕ, zero, suc, ◌+◌, ◌-◌, ◌<◌, ◌≤◌, true, List, [], ◌∷◌, ◌++◌, length, get_or, map, take, drop, Err, sym, ap, ◌∙◌, subst, inl, inr, add-one, arith, length-append}
+use Rattle.std.proofs.Common.{◌≡◌, ℕ, zero, suc, ◌+◌, ◌-◌, ◌<◌, ◌≤◌, true, not, ◌&&◌, List, [], ◌∷◌, ◌++◌, length, get_or, map, take, drop, Err, sym, ap, ◌∙◌, subst, inl, inr, add-one, arith, length-append}
 use mathlib.Core.Path.{fun_ext}
 use Rattle.std.specs.List.{AllByRecursion}
 use Rattle.std.proofs.lemmas.List.{take_more, take_all, drop_more, length-drop, length-take-le, length-map, map-append, get_or_append_left, get_or-append-add, get_or-map}
 use Rattle.std.proofs.ByRecursion.{All-get_or}
 use Rattle.std.proofs.lemmas.List.Sorted.{length_permutation}
 use Rattle.std.proofs.lemmas.Bool.{cases_lt}
-use Rattle.facts.specs.Sets.{holds}
+use Rattle.facts.specs.Sets.{holds, First}
 use Rattle.books.specs.Book.{Model, Facts}
 use Rattle.books.specs.Gathered.{Gathers}
 use Rattle.books.specs.Listed.{listed}
@@ -14,7 +14,7 @@ use Rattle.plans.specs.Steps.{Met}
 use Rattle.plans.specs.Plans.{Authorized, Recognized, Accepted, finally}
 use Rattle.plans.specs.Plans as plans
 use Rattle.plans.specs.Places.{Stands, Arranged}
-use Rattle.plans.proofs.Arranging.{Agree, arranged_more}
+use Rattle.plans.proofs.Arranging.{Agree, arranged_none, arranged_more}
 use Rattle.plans.proofs.Picks.{turning}
 use Rattle.sheets.specs.Lists.{Ascending}
 use Rattle.task_sheets.specs.Content.{Task, total, LawfulLevel, LawfulTask}
@@ -24,8 +24,8 @@ use Rattle.checks.specs.declared.fault.PlanFault.{PlanFault}
 use Rattle.checks.specs.declared.fault.PlanFault.TheVariants.{Sheet, Mismatch, NeedMissing, NoOrder, GoalMissing}
 use Rattle.checks.specs.declared.draft.PlacedStep.{PlacedStep}
 use Rattle.checks.specs.Tables.{blank}
-use Rattle.checks.specs.Checked.{Matches, facts_after_levels, Checked, EndsIn}
-use Rattle.checks.specs.Drafts.{placed, places_of, Told, Filled, Drafted}
+use Rattle.checks.specs.Checked.{Matches, facts_after_levels, Checked, EndsIn, Reached}
+use Rattle.checks.specs.Drafts.{placed, places_of, Told, Filled, Drafted, PlanDrafted}
 use Rattle.checks.proofs.Turns.{holds_append}
 use Rattle.checks.proofs.Levels.{pairwise_climbs}
 use Rattle.checks.specs.Levels.{Grown, LevelPassed, LacksNeed, LevelRefused}
@@ -177,3 +177,40 @@ module _ (m : Model) (t : Task) (words : List ℕ) (d : List PlacedStep) (h : Dr
 
   pub goal_reached : ((p : ℕ) → listed t.goal p ≡ true → holds words p ≡ true) → Accepted m (listed t.start) (listed t.goal) t.levels
   goal_reached r = record { recognized = all_recognized; reached = λ p g. sym (all_ends p) ∙ r p g }
+
+  pub all_drafted : PlanDrafted m t d
+  all_drafted = record { arranged = subst (λ plan. Arranged m plan (places_of d)) whole h.arranged; filled = h.filled }
+
+  -- the facts at the end, and what the goal has of them
+  same_end : holds words ≡ finally m (listed t.start) t.levels
+  same_end = fun_ext all_ends
+
+  pub goal_missed : Matches m t → (f : PlanFault) → Reached t.goal (holds words) (Err f) → Checked m t (Err f)
+  goal_missed ok (Sheet f) r = r
+  goal_missed ok Mismatch r = absurd r
+  goal_missed ok (NeedMissing n a p) r = absurd r
+  goal_missed ok (NoOrder n) r = absurd r
+  goal_missed ok (GoalMissing p) r = (ok, record { passed = all_recognized; missing = subst (λ (E : Facts). First (λ q. listed t.goal q && not (E q)) p) same_end r })
+
+-- no level yet
+pub drafted_none : (m : Model) (t : Task) (words : List ℕ) (d : List PlacedStep) → length d ≡ 0 → ((q : ℕ) → holds words q ≡ listed t.start q) → Drafted m t 0 words d
+drafted_none m t words d e h = record {
+  passed = tt;
+  facts = h;
+  arranged = arranged_none m (places_of d) e;
+  count = e;
+  filled = record { facts = λ u l. absurd (omega arith); level = λ u l. absurd (omega arith) };
+}
+
+-- all levels have passed
+module _ (m : Model) (t : Task) (k : ℕ) (words : List ℕ) (d : List PlacedStep) (h : Drafted m t k words d) (l : length t.levels ≤ k) where
+  pub drafted_all : Drafted m t (length t.levels) words d
+  drafted_all =
+      let e : take k t.levels ≡ take (length t.levels) t.levels = take_all k t.levels l ∙ sym (take_all (length t.levels) t.levels (omega arith)) in
+      record {
+        passed = subst (Recognized m (listed t.start)) e h.passed;
+        facts = λ q. h.facts q ∙ ap (λ plan. finally m (listed t.start) plan q) e;
+        arranged = subst (λ plan. Arranged m plan (places_of d)) e h.arranged;
+        count = h.count ∙ ap total e;
+        filled = h.filled;
+      }

@@ -11,6 +11,7 @@ use crate::draft::Draft;
 use crate::fault::PlanFault;
 use crate::level::pass_level;
 use crate::reading::part_set;
+use arrayvec::ArrayVec;
 use books::Book;
 use facts::FactSet;
 use task_sheets::{Part, TaskSheet};
@@ -25,8 +26,9 @@ fn pass_levels<B: Book>(
     ensures { MatchResult result (λ words. Drafted (B.Book.model book.now) (task_of task.now) (length (task_of task.now).levels) words draft.new.items) (λ f. Checked (B.Book.model book.now) (task_of task.now) (Err f)) }
 {
     let mut facts = part_set(task, Part::Start).words();
+    let mut placed = ArrayVec::new();
     for (i, level) in task.levels_in_turn().enumerate() {
-        facts = pass_level(book, facts, &level, i + 1, draft)?;
+        facts = pass_level(book, facts, &level, i + 1, &mut placed, draft)?;
     }
     Ok(facts)
 }

@@ -1,4 +1,5 @@
-ghost use Rattle.std.specs.Prelude.{Decides};
+ghost use Rattle.std.specs.Prelude.{◌≡◌, ℕ, false, Decides};
+ghost use Rattle.facts.specs.Sets.{holds};
 ghost use Rattle.books.specs.Book.{Model};
 ghost use Rattle.books.specs.Gathered.{Gathers};
 ghost use Rattle.plans.specs.Steps.{Authorizes};
@@ -28,9 +29,14 @@ impl PlacedStep {
     }
 }
 
-// What fills the room of a draft that is not in use. By hand: no Default is derived for a set, which has ghost fields.
+// What fills the room of a draft that is not in use: a step without facts. By hand: no Default is derived for a set, which has
+// ghost fields.
 impl Default for PlacedStep {
-    fn default() -> PlacedStep {
+    fn default() -> PlacedStep
+        ensures needs { (q : ℕ) → holds result.facts.needs.words q ≡ false }
+        ensures adds { (q : ℕ) → holds result.facts.adds.words q ≡ false }
+        ensures deletes { (q : ℕ) → holds result.facts.deletes.words q ≡ false }
+    {
         PlacedStep {
             place: Place { step: 0, level: 0 },
             facts: StepFacts {

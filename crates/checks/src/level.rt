@@ -20,11 +20,12 @@ use task_sheets::Numbers;
 
 // A level with its needs met: its steps as they stand in the task, each with its facts.
 #[derive(Drop)]
-struct Level {
+struct Level<'a> {
     number: usize,
-    steps: ArrayVec<PlacedStep, 256>,
-    ghost rising: { (i j : ℕ) → i < j → j < length steps.items → slice_index (steps_of steps.items) i < slice_index (steps_of steps.items) j },
-    ghost numbered: { (i : ℕ) → i < length steps.items → slice_index (levels_of steps.items) i ≡ number },
+    steps: &'a [PlacedStep],
+    ghost few: { length steps.now ≤ 256 },
+    ghost rising: { (i j : ℕ) → i < j → j < length steps.now → slice_index (steps_of steps.now) i < slice_index (steps_of steps.now) j },
+    ghost numbered: { (i : ℕ) → i < length steps.now → slice_index (levels_of steps.now) i ≡ number },
 }
 
 // Whether position `i` is left and none that is left stands in its row.
@@ -50,19 +51,20 @@ fn settle(facts: &FactSet, deletes: &FactSet, adds: &FactSet) -> FactSet
     facts.minus(deletes).union(adds)
 }
 
-impl Level {
-    // The level of these steps; refused at the first one that has a need missing in `facts`. As many as are placed, so many
-    // numbers of the list are read.
+impl<'a> Level<'a> {
+    // The level of these steps, put into `placed`; refused at the first one that has a need missing in `facts`. As many as
+    // are placed, so many numbers of the list are read.
     fn gathered<B: Book>(
         book: &B,
         facts: &FactSet,
         steps: &Numbers,
         number: usize,
-    ) -> Result<Level, PlanFault>
+        placed: &'a mut ArrayVec<PlacedStep, 256>,
+    ) -> Result<Level<'a>, PlanFault>
         requires { (Ascending (numbers_of steps.now)) × (length (numbers_of steps.now) ≤ 256) }
-        ensures { MatchResult result (λ level. (steps_of level.steps.items ≡ numbers_of steps.now) × (level.number ≡ number) × AllByRecursion (Met (B.Book.model book.now) (holds facts.now.words)) (numbers_of steps.now) × Told (B.Book.model book.now) level.steps.items) (LevelRefused (B.Book.model book.now) (holds facts.now.words) (numbers_of steps.now) number) }
+        ensures { MatchResult result (λ level. (steps_of level.steps.now ≡ numbers_of steps.now) × (level.number ≡ number) × AllByRecursion (Met (B.Book.model book.now) (holds facts.now.words)) (numbers_of steps.now) × Told (B.Book.model book.now) level.steps.now) (LevelRefused (B.Book.model book.now) (holds facts.now.words) (numbers_of steps.now) number) }
     {
-        let mut placed = ArrayVec::new();
+        placed.clear();
         while let Some(step) = steps.get(placed.len()) {
             let gathered = gather(book, step);
             if let Some(fact) = gathered.needs.first_outside(facts) {
@@ -82,47 +84,46 @@ impl Level {
         }
         Ok(Level {
             number,
-            steps: placed,
+            steps: placed.as_slice(),
         })
     }
 
     // Whether the step at `j` comes before the step at `i`: it is another one, which the step at `i` does not authorize.
     fn comes_before(&self, j: usize, i: usize) -> bool
-        requires { (j < length self.now.steps.items) × (i < length self.now.steps.items) }
-        ensures { (m : Model) → Told m self.now.steps.items → Decides result (Before m (slice_index (steps_of self.now.steps.items) j) (slice_index (steps_of self.now.steps.items) i)) }
+        requires { (j < length self.now.steps.now) × (i < length self.now.steps.now) }
+        ensures { (m : Model) → Told m self.now.steps.now → Decides result (Before m (slice_index (steps_of self.now.steps.now) j) (slice_index (steps_of self.now.steps.now) i)) }
     {
-        let steps = self.steps.as_slice();
+        let steps = self.steps;
         steps[j].place.step != steps[i].place.step && !steps[i].authorizes(&steps[j])
     }
 
     // The positions of the steps that come before the step at `i`.
     fn row_of(&self, i: usize) -> PlaceSet
-        requires { i < length self.now.steps.items }
-        ensures { (m : Model) → Told m self.now.steps.items → RowAt m (steps_of self.now.steps.items) i result }
+        requires { i < length self.now.steps.now }
+        ensures { (m : Model) → Told m self.now.steps.now → RowAt m (steps_of self.now.steps.now) i result }
     {
         PlaceSet::from_fn(self.steps.len(), |j| self.comes_before(j, i))
     }
 
-    // The rows of all steps, each at its step's position. Of fixed length, since callers have no allocator; the loop goes by
-    // number, which is asked for and written to.
-    fn rows(&self) -> [PlaceSet; 256]
-        ensures { (m : Model) → Told m self.now.steps.items → Rowed m (steps_of self.now.steps.items) result }
+    // Fills in the rows of all steps, each at its step's position. Of fixed length, since callers have no allocator; the loop
+    // goes by number, which is asked for and written to.
+    fn fill_rows(&self, rows: &mut [PlaceSet; 256])
+        ensures { (m : Model) → Told m self.now.steps.now → Rowed m (steps_of self.now.steps.now) rows.new }
     {
-        let mut rows = [PlaceSet::empty(); 256];
         for i in 0..self.steps.len() {
             rows[i] = self.row_of(i);
         }
-        rows
     }
 
     // Puts the steps into the draft, at each turn the smallest one left that authorizes every other one left; refused
     // where a turn has none.
     fn order(&self, draft: &mut Draft) -> Result<(), PlanFault>
-        requires { length draft.old.items + length self.now.steps.items ≤ 256 }
-        ensures { (m : Model) → Told m self.now.steps.items → MatchResult result (λ _. (bs : List ℕ) × Picked m (steps_of self.now.steps.items) bs × Grown m bs self.now.number draft.old.items draft.new.items) (λ f. (f ≡ PlanFault.NoOrder self.now.number) × (Authorized m (steps_of self.now.steps.items) → ⊥)) }
+        requires { length draft.old.items + length self.now.steps.now ≤ 256 }
+        ensures { (m : Model) → Told m self.now.steps.now → MatchResult result (λ _. (bs : List ℕ) × Picked m (steps_of self.now.steps.now) bs × Grown m bs self.now.number draft.old.items draft.new.items) (λ f. (f ≡ PlanFault.NoOrder self.now.number) × (Authorized m (steps_of self.now.steps.now) → ⊥)) }
     {
-        let rows = self.rows();
-        let steps = self.steps.as_slice();
+        let mut rows = [PlaceSet::empty(); 256];
+        self.fill_rows(&mut rows);
+        let steps = self.steps;
         let mut left = PlaceSet::from_fn(steps.len(), |_| true);
         for _turn in steps {
             let i = first_ready(&left, &rows, steps.len()).ok_or(PlanFault::NoOrder {
@@ -136,11 +137,11 @@ impl Level {
 
     // The facts after the level: all that its steps delete is removed, then all that they add is put.
     fn facts_after(&self, facts: &FactSet) -> FactSet
-        ensures { (m : Model) → Told m self.now.steps.items → (q : ℕ) → holds result.words q ≡ passed m (holds facts.now.words) (steps_of self.now.steps.items) q }
+        ensures { (m : Model) → Told m self.now.steps.now → (q : ℕ) → holds result.words q ≡ passed m (holds facts.now.words) (steps_of self.now.steps.now) q }
     {
         let mut deletes = FactSet::empty();
         let mut adds = FactSet::empty();
-        for step in self.steps.as_slice() {
+        for step in self.steps {
             deletes = deletes.union(&step.facts.deletes);
             adds = adds.union(&step.facts.adds);
         }
@@ -149,19 +150,21 @@ impl Level {
 }
 
 // Passes one level: its needs are looked at, its picked order is put into the draft, and the facts after it are answered.
-// Refused at the smallest step that has a need missing, or where the level is not authorized.
+// Refused at the smallest step that has a need missing, or where the level is not authorized. Its steps are put into `placed`,
+// whatever that held, so that one vector serves all levels.
 pub(crate) fn pass_level<B: Book>(
     book: &B,
     facts: [u64; 16],
     steps: &Numbers,
     number: usize,
+    placed: &mut ArrayVec<PlacedStep, 256>,
     draft: &mut Draft,
 ) -> Result<[u64; 16], PlanFault>
     requires { (Ascending (numbers_of steps.now)) × (length draft.old.items + length (numbers_of steps.now) ≤ 256) }
     ensures { MatchResult result (λ after. LevelPassed (B.Book.model book.now) (holds facts) (numbers_of steps.now) number after draft.old.items draft.new.items) (LevelRefused (B.Book.model book.now) (holds facts) (numbers_of steps.now) number) }
 {
     let start = FactSet::of(facts);
-    let level = Level::gathered(book, &start, steps, number)?;
+    let level = Level::gathered(book, &start, steps, number, placed)?;
     level.order(draft)?;
     Ok(level.facts_after(&start).words())
 }

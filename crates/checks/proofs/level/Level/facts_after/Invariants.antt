@@ -7,6 +7,6 @@ use Rattle.checks.proofs.level.Level.facts_after.Given as goal
 
 abbrev pub invariant-loop-step : goal.invariant-loop-step
 invariant-loop-step l =
-    (m : Model) → Told m l.self.steps.items
-    → ((q : ℕ) → holds l.deletes.words q ≡ some (λ a. m.deletes a q) (take l.step-index (steps_of l.self.steps.items)))
-    × ((q : ℕ) → holds l.adds.words q ≡ some (λ a. m.adds a q) (take l.step-index (steps_of l.self.steps.items)))
+    (m : Model) → Told m l.self.steps.now
+    → ((q : ℕ) → holds l.deletes.words q ≡ some (λ a. m.deletes a q) (take l.step-index (steps_of l.self.steps.now)))
+    × ((q : ℕ) → holds l.adds.words q ≡ some (λ a. m.adds a q) (take l.step-index (steps_of l.self.steps.now)))

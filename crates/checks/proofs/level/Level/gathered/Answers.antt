@@ -35,19 +35,22 @@ pub invariant_of-result : goal.invariant_of-result
 invariant_of-result g c =
     let w = c.in_default.ensures in
     let xs = numbers_of c.args.steps.now in
-    let items = c.loop-step.placed.items in
-    let e : steps_of items ≡ xs = c.loop-step.invariant.1 ∙ take_all (length items) xs (omega (arith, c.len.ensures.value)) in
+    let items = c.as_slice.result.now in
+    let here = c.as_slice.ensures.value in
+    let n = length c.loop-step.placed.items in
+    let e : steps_of items ≡ xs = ap steps_of here ∙ c.loop-step.invariant.1 ∙ take_all n xs (omega (arith, c.len.ensures.value)) in
     record {
+      few = c.as_slice.ensures.fits;
       rising = λ i j l k. subst (λ ys. get_or ys i 0 < get_or ys j 0) (sym e)
           (pairwise_get_or (λ a b. a < b) xs c.requires.0 i j 0 l (omega (arith, ap length e, length-map items (λ (s : PlacedStep). s.place.step))));
-      numbered = c.loop-step.invariant.2;
+      numbered = rw here c.loop-step.invariant.2;
     }
 
 pub returns : goal.returns
 returns g c =
     let all = take_all (length c.loop-step.placed.items) (numbers_of c.args.steps.now) (omega (arith, c.len.ensures.value, c.in_default.ensures)) in (
-      c.loop-step.invariant.1 ∙ all,
+      ap steps_of c.as_slice.ensures.value ∙ c.loop-step.invariant.1 ∙ all,
       refl,
       All-from_get_or _ (numbers_of c.args.steps.now) 0 (λ i l. c.loop-step.invariant.4 i (omega (arith, c.len.ensures.value, c.in_default.ensures))),
-      c.loop-step.invariant.3,
+      rw c.as_slice.ensures.value c.loop-step.invariant.3,
     )
