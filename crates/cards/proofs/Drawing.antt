@@ -22,6 +22,10 @@ use Rattle.cards.proofs.Spans.{cut}
 pub start_known : (t : Task) → LawfulTask t → (q : ℕ) → t.facts ≤ q → listed t.start q ≡ false
 start_known t law q l = sym (listed_below t.start t.facts q law.start.below) ∙ ap (λ x. x && listed t.start q) (le-ltb q t.facts l)
 
+-- every start fact is below a span that has room for all facts
+pub start_held : (t : Task) → LawfulTask t → (span q : ℕ) → t.facts ≤ span → (listed t.start q && ltb q span) ≡ listed t.start q
+start_held t law span q room = cut (listed t.start q) span q (λ l. start_known t law q (omega arith))
+
 -- every start fact is below the span
 pub drawn_held : (s : Setting) (t : Task) (state : ℕ → State) → DrawnUp s t state → (q : ℕ) → (listed t.start q && ltb q s.span) ≡ listed t.start q
 drawn_held s t state w q = cut (listed t.start q) s.span q (λ l. w.known q (omega (arith, w.room)))

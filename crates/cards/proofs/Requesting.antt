@@ -18,7 +18,7 @@ module _ (s : Setting) (law : Lawful s.book) (t : Task) (b₀ : Moment) (issued 
   abbrev Fine : Moment → Type 0
   Fine = Sound s.book s.places (listed t.start)
 
-  request_onward : (b : Moment) (q : Request) (r : Reply) (a : Moment) → Replied s b q r a → Fine b → Fine a
+  pub request_onward : (b : Moment) (q : Request) (r : Reply) (a : Moment) → Replied s b q r a → Fine b → Fine a
   request_onward b (Call c) r a w f = let v = call_answered s b c r a w in onward s law t b₀ issued b c.event c.place v.0 a v.2 f
   request_onward b (Look p) r a w f = subst Fine (sym (look_still s b p r a w)) f
 

@@ -1,9 +1,14 @@
 -- Which words ask for which command.
 use Rattle.std.proofs.Common.{◌≡◌, ℕ, ◌+◌, ◌*◌, List, [], ◌∷◌, get_or, Some, None, codes, Option, sym, ap, ◌∙◌, subst, arith}
+use Rattle.scripts.specs.Lines.{Writes, Reads}
 use Rattle.commands.specs.declared.command.Command.{Command}
 use Rattle.commands.specs.declared.command.Command.TheVariants.{List as Listing, Rack, Check, Recast, Run, Explain, Help}
 use Rattle.commands.specs.declared.command.Output.{Output}
-use Rattle.commands.specs.Words.{NamesNumber, NamesRack, AsksRack, AsksCommand, Asks}
+use Rattle.commands.specs.Words.{NamesNumber, NamesRack, AsksNumber, AsksRack, AsksCommand, Asks}
+
+pub number_alone : (ws more : List (List ℕ)) (w : List ℕ) (r : Option ℕ) → ws ≡ w ∷ more → more ≡ [] → Reads w r → AsksNumber ws r
+number_alone ws more w None e f h = λ n s. let d : s.0 ≡ w = cc in h n (subst (λ (ds : List ℕ). Writes ds n) d s.2)
+number_alone ws more w (Some n) e f h = (w, e ∙ ap (λ l. w ∷ l) f, h)
 
 rest_same : (w v : List ℕ) (xs ys : List (List ℕ)) → w ∷ xs ≡ v ∷ ys → xs ≡ ys
 rest_same w v xs ys e = cc
@@ -39,3 +44,10 @@ rack_asked words ws w (Some a) e f h = subst (λ (l : List (List ℕ)). Asks l a
 
 pub explain_unasked : (words ws : List (List ℕ)) (w : List ℕ) → words ≡ w ∷ ws → w ≡ codes "explain" → ((n : ℕ) → NamesNumber ws n → ⊥) → (a : Command) → Asks words a → ⊥
 explain_unasked words ws w e f h = subst (λ (l : List (List ℕ)). (a : Command) → Asks l a → ⊥) (sym (e ∙ ap (λ v. v ∷ ws) f)) (explain_none ws h)
+
+pub no_loggers : (words more : List (List ℕ)) (w : List ℕ) → words ≡ w ∷ more → ((n : ℕ) → Writes w n → ⊥) → (loggers baths : ℕ) (o : Output) → NamesRack words loggers baths o → ⊥
+no_loggers words more w e h loggers baths o s = h loggers (subst (λ (ds : List ℕ). Writes ds loggers) (first_same s.0 w (s.1 ∷ s.2) more (sym s.3 ∙ e)) s.4)
+
+pub no_baths : (words more rest : List (List ℕ)) (w v : List ℕ) → words ≡ w ∷ more → more ≡ v ∷ rest → ((n : ℕ) → Writes v n → ⊥) → (loggers baths : ℕ) (o : Output) → NamesRack words loggers baths o → ⊥
+no_baths words more rest w v e f h loggers baths o s =
+    h baths (subst (λ (ds : List ℕ). Writes ds baths) (first_same s.1 v s.2 rest (rest_same s.0 w (s.1 ∷ s.2) more (sym s.3 ∙ e) ∙ f)) s.5)

@@ -1,5 +1,7 @@
 -- The first of some words.
-use Rattle.std.proofs.Common.{◌≡◌, ◌-◌, ◌<◌, List, [], ◌∷◌, map, length, get_or, take, drop, refl, arith, take_all}
+use Rattle.std.proofs.Common.{◌≡◌, ℕ, ◌-◌, ◌<◌, false, List, [], ◌∷◌, map, length, get_or, take, drop, is_some, Some, None, Option, String, refl, arith, take_all, Bor}
+use Rattle.std.specs.declared.alloc.Global.{Global}
+use Rattle.commands.specs.Words.{FirstOf}
 
 pub none_mapped : {S B : Type 0} (f : S → B) (ws : List S) → length ws < 1 → map f ws ≡ []
 none_mapped f [] h = refl
@@ -9,3 +11,8 @@ pub first_mapped : {S B : Type 0} (f : S → B) (ws : List S) (x : S) (y : B) �
 first_mapped f [] x y h e v = absurd (omega arith)
 first_mapped f (w ∷ ws) x y h e v =
     rw (take_all (length (w ∷ ws) - 1) ws (omega arith), v, e)
+
+-- there is none where none is found
+pub none_first : (ws : List (List ℕ)) (r : Option (Bor (List ℕ) × Bor (List (String Global)))) → FirstOf ws r → is_some r ≡ false → ws ≡ []
+none_first ws None h e = h
+none_first ws (Some p) h e = let z : ◌≡◌ {A = ℕ} 0 1 = cc in absurd (omega arith)

@@ -7,6 +7,9 @@ listed_more : (set : ℕ → Bool) (p : ℕ) → listed set (suc p) ≡ listed s
 unfolding listed
 listed_more set p = refl
 
+pub listed_step : (set : ℕ → Bool) (p : ℕ) (front text more : List ℕ) → text ≡ front ++ listed set p → more ≡ text ++ fact_word set p → more ≡ front ++ listed set (p + 1)
+listed_step set p front text more e f = rw (add-one, listed_more set p) (f ∙ ap (λ l. l ++ fact_word set p) e ∙ append_assoc front (listed set p) (fact_word set p))
+
 -- past facts that the set lacks
 listed_past : (set : ℕ → Bool) (p k : ℕ) → ((q : ℕ) → p ≤ q → q < p + k → set q ≡ false) → listed set (p + k) ≡ listed set p
 listed_past set p zero h = rw add-zero refl

@@ -1,7 +1,7 @@
 -- The decimal digits of a number say it.
-use Rattle.std.proofs.Common.{◌≡◌, ℕ, ◌^◌, ◌<◌, length, get_or, decimal, sym, ap, ◌∙◌, ⊎_elim, arith, rules}
+use Rattle.std.proofs.Common.{◌≡◌, ℕ, ◌+◌, ◌/◌, ◌%◌, ◌^◌, ◌<◌, ◌≤◌, [], ◌∷◌, length, get_or, decimal, sym, ap, ◌∙◌, ⊎_elim, arith, length-append, rules}
 use Rattle.std.proofs.lemmas.Str.Parse.{IsNumeralModel, numerals_by_weight}
-use Rattle.std.proofs.lemmas.Fmt.{digits_decimal, digits_value-decimal, decimal_nonempty, decimal_digit, first_decimal, decimal-digits_value}
+use Rattle.std.proofs.lemmas.Fmt.{digits_decimal, digits_value-decimal, decimal_nonempty, decimal_digit, decimal_step, first_decimal, decimal-digits_value}
 use Rattle.std.proofs.lemmas.Bool.{cases_lt}
 use Rattle.decimals.specs.Numbers.{Digits, weighed, Decimal}
 
@@ -21,3 +21,7 @@ decimal_says n h =
       says = record { some = decimal_nonempty n h; digits = digits_decimal own n h; weighs = digits_value-decimal own n h; lean = lean n h };
       only = λ ds s. sym (decimal-digits_value own ds s.digits s.some s.lean (let e = s.weighs in omega arith)) ∙ ap decimal s.weighs;
     }
+
+-- a number of ten or more has one digit more than its tenth
+pub length_step : (n : ℕ) → 10 ≤ n → n < 2 ^ 64 → length (decimal n) ≡ length (decimal (n / 10)) + 1
+length_step n ten h = ap length (decimal_step n ten h) ∙ length-append (decimal (n / 10)) ((48 + n % 10) ∷ [])

@@ -7,7 +7,7 @@ use sheets::TooShort;
 use std::process::Abort;
 use std::test::Fail;
 use task_sheets::TaskSheet;
-use timetables::{Measure, Seconds, StepCount, strata, timetable};
+use timetables::{Measure, Seconds, StepCount, seconds, step_count, strata, timetable};
 
 // The card of a task of the rack, newly issued.
 fn issued(rt: &impl Abort, bytes: &[u8]) -> Result<Card, Fail> {
@@ -53,6 +53,18 @@ fn sums_stop_at_the_top(rt: HostRuntime) {
     let seconds = Seconds { count: u32::MAX };
     assert_eq!(rt; seconds.plus(Seconds { count: 1 }).count, u32::MAX);
     assert!(rt; steps.at_most(&steps) && !seconds.at_most(&Seconds { count: 0 }));
+}
+
+#[test]
+fn a_count_says_which_it_is(rt: HostRuntime) -> Result<(), Fail> {
+    let steps = step_count::StepCount { count: 7 };
+    let seconds = seconds::Seconds { count: 7 };
+    let told = format!(in rt.alloc(); "{steps:?} {seconds:?}")?;
+    assert_eq!(rt;
+        told.as_str(),
+        "StepCount { count: 7 } Seconds { count: 7 }"
+    );
+    Ok(())
 }
 
 #[test]

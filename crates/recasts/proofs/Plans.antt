@@ -1,12 +1,28 @@
 -- The bytes of lists and of a plan, number by number and level by level.
-use Rattle.std.proofs.Common.{◌≡◌, ℕ, zero, suc, ◌+◌, ◌*◌, ◌≤◌, List, [], ◌∷◌, ◌++◌, length, sym, refl, ap, ◌∙◌, inl, inr, arith, length-append}
+use Rattle.std.proofs.Common.{◌≡◌, ℕ, zero, suc, ◌+◌, ◌*◌, ◌≤◌, Bool, true, false, cond, List, [], ◌∷◌, ◌++◌, length, sym, refl, ap, ◌∙◌, inl, inr, add-one, arith, length-append}
 use Rattle.std.proofs.lemmas.List.{append_assoc, append-nil}
 use Rattle.std.proofs.lemmas.Bool.{cases_lt}
+use Rattle.books.specs.Book.{Facts}
+use Rattle.sheets.specs.Fields.{two, twos}
 use Rattle.task_sheets.specs.Content.{list_bytes, plan_bytes, total}
 use Rattle.task_sheets.proofs.Decodes.{length_list_bytes}
 use Rattle.books.specs.Listed.{members}
 use Rattle.recasts.specs.Layers.{steps_at, rows_at}
 use Rattle.recasts.proofs.Rows.{rows_more}
+
+-- the numbers of a set, one more
+twos_append : (ps qs : List ℕ) → twos (ps ++ qs) ≡ twos ps ++ twos qs
+twos_append [] qs = refl
+twos_append (p ∷ ps) qs = ap (λ r. two p ++ r) (twos_append ps qs)
+
+twos_one : (b : Bool) (p : ℕ) → twos (cond b (p ∷ []) []) ≡ cond b (two p) []
+twos_one true p = refl
+twos_one false p = refl
+
+pub twos_more : (P : Facts) (p : ℕ) → twos (members P (p + 1)) ≡ twos (members P p) ++ cond (P p) (two p) []
+twos_more P p =
+    ap (λ n. twos (members P n)) (add-one p) ∙ twos_append (members P p) (cond (P p) (p ∷ []) [])
+    ∙ ap (λ r. twos (members P p) ++ r) (twos_one (P p) p)
 
 -- one level more
 pub plan_push : (plan : List (List ℕ)) (xs : List ℕ) → plan_bytes (plan ++ (xs ∷ [])) ≡ plan_bytes plan ++ list_bytes xs

@@ -110,7 +110,7 @@ members_same P Q (suc n) h =
     ap (λ xs. xs ++ cond (P n) (n ∷ []) []) (members_same P Q n (λ a l. h a (omega arith)))
     ∙ ap (λ b. members Q n ++ cond b (n ∷ []) []) (h n (omega arith))
 
-row_said : (P Q : Facts) → ((a : ℕ) → P a ≡ (ltb a 512 && Q a)) → members P 512 ≡ members Q 512
+pub row_said : (P Q : Facts) → ((a : ℕ) → P a ≡ (ltb a 512 && Q a)) → members P 512 ≡ members Q 512
 row_said P Q h = members_same P Q 512 (λ a l. let e = h a in let t : ltb a 512 ≡ true = lt-ltb a 512 l in grind (arith, nat_tests))
 
 -- the numbers of such a set are the list

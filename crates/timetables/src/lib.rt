@@ -7,6 +7,15 @@ pub mod stratum;
 pub mod timetabling;
 pub mod weighing;
 
+// The two counts by modules of their own.
+pub mod seconds {
+    pub use crate::count::Seconds;
+}
+
+pub mod step_count {
+    pub use crate::count::StepCount;
+}
+
 pub use count::{Count, Seconds, StepCount};
 pub use measure::Measure;
 pub use stratum::strata;
