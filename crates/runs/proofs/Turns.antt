@@ -1,5 +1,6 @@
 -- Requests carried out in turn: none yet, and one more.
 use Rattle.std.proofs.Common.{◌≡◌, ℕ, ◌+◌, ◌<◌, List, [], ◌∷◌, ◌++◌, map, length, get_or, take, drop, set, sym, refl, ap, ◌∙◌, subst, arith}
+use lib.Seq.{take-length}
 use Rattle.std.proofs.lemmas.List.{take_more, take_more_set, drop-set-lt, drop-drop}
 use Rattle.books.specs.Book.{Model, Facts}
 use Rattle.cards.specs.Moments.{Setting, Moment}
@@ -14,6 +15,9 @@ use Rattle.cards.proofs.Trails.{setting_stays, trail_more, after_more}
 use Rattle.checks.specs.Tables.{blank}
 use Rattle.checks.specs.declared.arrangement.Arrangement.{Arrangement}
 use Rattle.runs.specs.Whole.{Carried}
+
+pub carried_none : (s : Setting) (b : Moment) → Carried s b [] [] b
+carried_none s b = record { calls = []; asked = refl; told = refl; trail = tt; ends = refl }
 
 map_more : {A B : Type 0} (f : A → B) (xs : List A) (x : A) → map f (xs ++ x ∷ []) ≡ map f xs ++ f x ∷ []
 map_more f [] x = refl
@@ -56,3 +60,12 @@ so_far_more m from span span' c₀ board₀ c board c' board' requests replies�
       (subst (λ (s : Setting). Replied s (moment_of c board) (get_or requests i d) r (moment_of c' board')) (setting_stays m from span c₀ c w.span w.plan) (h (numbered_stays c₀ c w.plan n))));
   rest = drop-set-lt (i + 1) replies i r (omega arith) ∙ sym (drop-drop 1 i replies) ∙ ap (drop 1) w.rest ∙ drop-drop 1 i replies₀;
 }
+
+-- the last turn is done
+pub so_far_all : (m : Model) (from span : ℕ) (c₀ : Card) (board₀ : Facts) (c : Card) (board : Facts) (requests : List Request) (replies₀ replies : List Reply) (i : ℕ)
+    → i ≡ length requests → SoFar m from span c₀ board₀ c board (take i requests) (take i replies) (drop i replies₀) (drop i replies)
+    → SoFar m from span c₀ board₀ c board requests (take (length requests) replies) (drop (length requests) replies₀) (drop (length requests) replies)
+so_far_all m from span c₀ board₀ c board requests replies₀ replies i e w =
+    subst (λ (xs : List Request). SoFar m from span c₀ board₀ c board xs (take (length requests) replies) (drop (length requests) replies₀) (drop (length requests) replies))
+    (take-length requests)
+    (subst (λ (n : ℕ). SoFar m from span c₀ board₀ c board (take n requests) (take n replies) (drop n replies₀) (drop n replies)) e w)
