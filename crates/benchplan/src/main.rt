@@ -6,7 +6,6 @@ use book_sheets::BookSheet;
 use books::Book;
 use cards::{Card, RunFault, begin, finish, issue};
 use checks::check;
-use commands::accepted;
 use desk::files::read_sheet;
 use facts::FactSet;
 use sheets::keeps_length;
@@ -30,11 +29,20 @@ fn print_task(rt: &HostRuntime, task: &TaskSheet) -> io::Result<()> {
     println!(rt; "task opened: facts {facts} steps {steps} levels {levels} places {total}")
 }
 
+// Prints the facts that an accepted plan ends in, without asking for memory.
+fn print_facts(rt: &HostRuntime, facts: &FactSet) -> io::Result<()> {
+    print!(rt; "accepted: facts")?;
+    for p in facts.iter() {
+        print!(rt; " {p}")?;
+    }
+    println!(rt; "")
+}
+
 // Checks the plan of the task by the book.
 fn print_check(rt: &HostRuntime, book: &BookSheet, task: &TaskSheet) -> io::Result<()> {
     let mut facts = FactSet::empty();
     match check(book, task, &mut facts) {
-        Ok(()) => rt.println(accepted(rt.alloc(), &facts)?),
+        Ok(()) => print_facts(rt, &facts),
         Err(fault) => println!(rt; "plan {fault}"),
     }
 }

@@ -84,7 +84,7 @@ fn obey(rt: &HostRuntime, words: &[String]) -> Result<(), Halt> {
         ) => write_rack(rt, loggers, baths, output),
         Some(Command::Check) => print_check(rt, &read_sheets(rt)?),
         Some(Command::Recast(output)) => write_recast(rt, &read_sheets(rt)?, output),
-        Some(Command::Run) => run_script(rt, &read_sheets(rt)?),
+        Some(Command::Run) => Ok(run_script(rt, &read_sheets(rt)?)?),
         Some(Command::Explain(number)) => Ok(tell_meaning(rt, number)?),
         Some(Command::Help) => Ok(rt.println(help())?),
         None => {

@@ -1,5 +1,5 @@
 // A crew's script.
-use crate::halt::Halt;
+use crate::halt::{Halt, tell};
 use crate::sheets_of::Sheets;
 use anyhow::anyhow;
 use boards::BitBoard;
@@ -39,7 +39,7 @@ fn carry(rt: &HostRuntime, sheets: &Sheets, requests: &[Request]) -> Result<(), 
 }
 
 // Reads a script from standard input and carries it out; a text that is no script does nothing.
-pub fn run_script(rt: &HostRuntime, sheets: &Sheets) -> Result<(), Halt> {
+fn carry_script(rt: &HostRuntime, sheets: &Sheets) -> Result<(), Halt> {
     let mut text = String::new(rt.alloc());
     rt.stdin().read_to_string(&mut text)?;
     match script(rt.alloc(), text.as_str()) {
@@ -49,4 +49,9 @@ pub fn run_script(rt: &HostRuntime, sheets: &Sheets) -> Result<(), Halt> {
             Err(Halt::Failed(anyhow!("nothing of the script is done")))
         }
     }
+}
+
+// Reads a script from standard input, carries it out, and tells a refusal.
+pub fn run_script(rt: &HostRuntime, sheets: &Sheets) -> anyhow::Result<()> {
+    carry_script(rt, sheets).or_else(|halt| tell(rt, halt))
 }
